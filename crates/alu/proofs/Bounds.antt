@@ -1,0 +1,29 @@
+-- Bounds that the functions' proofs cite.
+-- Assumes nothing.
+use Prim.Native.Nat.{ℕ, _+_, _-_, _*_, _≤_, _<_, _^_}
+use mathlib.Core.Path.{_≡_}
+use mathlib.Core.Bool.{Bool, true, false}
+use native.Mathlib.Nat.{mod-lt}
+use lib.Dec.{lit<, lit≤}
+use lib.Pow.{pow-pos}
+use Rattle.alu.specs.declared.types.Size.{Size}
+use Rattle.alu.specs.declared.types.Size.the-variants.{Byte, Word, Long}
+use Rattle.alu.specs.Bits.{bitsOf, low, digit}
+
+-- a size has from 1 to 32 bits
+pub bits-pos : (size : Size) → 0 < bitsOf size
+bits-pos Byte = lit< tt
+bits-pos Word = lit< tt
+bits-pos Long = lit< tt
+
+pub bits-le : (size : Size) → bitsOf size ≤ 32
+bits-le Byte = lit≤ tt
+bits-le Word = lit≤ tt
+bits-le Long = lit≤ tt
+
+pub digit-le : (b : Bool) → digit b ≤ 1
+digit-le true = lit≤ tt
+digit-le false = lit≤ tt
+
+pub low-lt : (n x : ℕ) → low n x < 2 ^ n
+low-lt n x = mod-lt x (pow-pos n)

@@ -1,0 +1,5 @@
+pub mod Bounds
+pub mod Signed
+mod Formulas
+mod Whole
+pub mod Laws

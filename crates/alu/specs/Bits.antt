@@ -1,0 +1,44 @@
+-- Numbers over n bits: the parts of a number that the Manual speaks of, and its signed reading.
+-- Assumes nothing.
+use Prim.Native.Nat.{ℕ, _+_, _-_, _*_, _/_, _%_, _^_}
+use mathlib.Core.Bool.{Bool, true, false, _&&_}
+use lib.Dec.{eqb}
+use lib.IntN.{ℤ, pos, negℤ, _-ℤ_}
+use lib.Signed.{leZ, ltZ}
+use Rattle.alu.specs.declared.types.Size.{Size}
+use Rattle.alu.specs.declared.types.Size.the-variants.{Byte, Word, Long}
+
+-- how many bits a size has
+abbrev pub bitsOf : Size → ℕ
+bitsOf Byte = 8
+bitsOf Word = 16
+bitsOf Long = 32
+
+-- the low n bits of x
+abbrev pub low : (n x : ℕ) → ℕ
+low n x = x % 2 ^ n
+
+-- bit k of x, counted from 0
+abbrev pub bit : (k x : ℕ) → Bool
+bit k x = eqb (x / 2 ^ k % 2) 1
+
+-- the highest of n bits: the Manual's Sm, Dm, Rm
+unfoldable pub top : (n x : ℕ) → Bool
+top n x = bit (n - 1) x
+
+-- a flag as a number
+abbrev pub digit : Bool → ℕ
+digit true = 1
+digit false = 0
+
+-- the signed reading of n bits (two's complement): the low bits, less 2 ^ n if the top bit is set
+unfoldable pub signed : (n x : ℕ) → ℤ
+signed n x = pos (low n x) -ℤ pos (digit (top n x) * 2 ^ n)
+
+-- z is the signed reading of some n bits: -2 ^ (n - 1) ≤ z < 2 ^ (n - 1)
+abbrev pub fits : ℕ → ℤ → Bool
+fits n z = leZ (negℤ (pos (2 ^ (n - 1)))) z && ltZ z (pos (2 ^ (n - 1)))
+
+-- the signed reading raised by 2 ^ (n - 1), so that it is a natural number: 0 stands for the least, 2 ^ n - 1 for the greatest
+unfoldable pub raised : (n x : ℕ) → ℕ
+raised n x = (x + 2 ^ (n - 1)) % 2 ^ n

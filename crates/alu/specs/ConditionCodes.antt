@@ -1,0 +1,58 @@
+-- The condition codes: the Manual's table of condition code computations, row by row.
+-- s, d and r are the source, the destination and the result; the formulas take their top bits Sm, Dm, Rm. Assumes nothing.
+use Prim.Native.Nat.{ℕ}
+use mathlib.Core.Bool.{Bool, false, not, _&&_, _||_}
+use lib.Dec.{eqb}
+use Rattle.alu.specs.declared.types.Flags.{Flags}
+use Rattle.alu.specs.Bits.{low, top}
+
+-- ADD, ADDX
+abbrev pub addV : (s d r : Bool) → Bool
+addV s d r = s && d && not r || not s && not d && r
+
+abbrev pub addC : (s d r : Bool) → Bool
+addC s d r = s && d || not r && d || s && not r
+
+-- SUB, SUBX, CMP
+abbrev pub subV : (s d r : Bool) → Bool
+subV s d r = not s && d && not r || s && not d && r
+
+abbrev pub subC : (s d r : Bool) → Bool
+subC s d r = s && not d || r && not d || s && r
+
+-- NEG, NEGX
+abbrev pub negV : (d r : Bool) → Bool
+negV d r = d && r
+
+abbrev pub negC : (d r : Bool) → Bool
+negC d r = d || r
+
+-- the condition LT
+abbrev pub isLT : (n v : Bool) → Bool
+isLT n v = n && not v || not n && v
+
+-- N = Rm, Z = no bit of the result is set, V and C as given, X = C
+abbrev pub arithFlags : (n r : ℕ) (v c : Bool) → Flags
+arithFlags n r v c = record { x = c; n = top n r; z = eqb (low n r) 0; v = v; c = c }
+
+-- the row of ADD, of SUB and of NEG, in n bits
+unfoldable pub addFlags : (n s d r : ℕ) → Flags
+addFlags n s d r = arithFlags n r (addV (top n s) (top n d) (top n r)) (addC (top n s) (top n d) (top n r))
+
+unfoldable pub subFlags : (n s d r : ℕ) → Flags
+subFlags n s d r = arithFlags n r (subV (top n s) (top n d) (top n r)) (subC (top n s) (top n d) (top n r))
+
+unfoldable pub negFlags : (n d r : ℕ) → Flags
+negFlags n d r = arithFlags n r (negV (top n d) (top n r)) (negC (top n d) (top n r))
+
+-- ADDX, SUBX, NEGX: Z is cleared by a nonzero result and otherwise kept
+abbrev pub keepZ : (old new : Flags) → Flags
+keepZ old new = record { x = new .x; n = new .n; z = old .z && new .z; v = new .v; c = new .c }
+
+-- CMP: X is kept
+abbrev pub keepX : (old new : Flags) → Flags
+keepX old new = record { x = old .x; n = new .n; z = new .z; v = new .v; c = new .c }
+
+-- the row of the logic operations: N and Z of the result, V and C cleared, X kept
+unfoldable pub logicFlags : (n r : ℕ) → Flags → Flags
+logicFlags n r f = record { x = f .x; n = top n r; z = eqb (low n r) 0; v = false; c = false }

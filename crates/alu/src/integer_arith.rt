@@ -1,0 +1,167 @@
+// ADD, SUB, CMP and NEG with their X forms, on values and flags: integer_arith.rs of the crate m68k,
+// in its order. An operand may have bits above its size; they do not count.
+ghost use mathlib.Core.Path.{_≡_};
+ghost use Rattle.alu.specs.Bits.{bitsOf};
+ghost use Rattle.alu.specs.ConditionCodes.{arithFlags, addFlags, subFlags, logicFlags, keepZ, keepX};
+ghost use Rattle.alu.specs.Arith.{sum, difference, addOf, addxOf, subOf, subxOf, cmpOf, negOf, negxOf};
+use super::types::Answer;
+use super::types::Flags;
+use super::types::Size;
+use super::types::accepted;
+use super::types::digit;
+use super::types::figure;
+use super::types::masked;
+use super::types::top;
+
+// dst + src + x in the size's bits. 64 bits hold the whole sum; it is masked once, at the end.
+fn add(size: Size, src: u32, dst: u32, x: bool) -> u32
+    ensures { λ r. ⌜ r ≡ sum (bitsOf size) src dst x ⌝ }
+{
+    let whole = dst as u64 + src as u64 + digit(x) as u64;
+    masked(size, whole)
+}
+
+// dst - src - x in the size's bits. 2^32, a multiple of every size's modulus, keeps it from going below 0.
+fn subtract(size: Size, src: u32, dst: u32, x: bool) -> u32
+    ensures { λ r. ⌜ r ≡ difference (bitsOf size) src dst x ⌝ }
+{
+    let whole = 0x1_0000_0000 + dst as u64 - (src as u64 + digit(x) as u64);
+    masked(size, whole)
+}
+
+// N and Z of the result, V and C as given, and X = C.
+fn arith_flags(size: Size, result: u32, v: bool, c: bool) -> Flags
+    ensures { λ r. ⌜ r ≡ arithFlags (bitsOf size) result v c ⌝ }
+{
+    Flags {
+        x: c,
+        n: top(size, result),
+        z: masked(size, result as u64) == 0,
+        v: v,
+        c: c,
+    }
+}
+
+// The X forms clear Z for a nonzero result and otherwise keep it.
+fn keep_z(old: Flags, new: Flags) -> Flags
+    ensures { λ r. ⌜ r ≡ keepZ old new ⌝ }
+{
+    Flags {
+        x: new.x,
+        n: new.n,
+        z: old.z & new.z,
+        v: new.v,
+        c: new.c,
+    }
+}
+
+// ADD <ea>,Dn
+pub fn exec_add(size: Size, src: u32, dst: u32, flags: Flags) -> Answer
+    ensures { λ r. ⌜ r ≡ addOf size src dst flags ⌝ }
+{
+    let result = add(size, src, dst, false);
+    let new = set_add_flags(size, src, dst, result);
+    accepted(result, new, 4)
+}
+
+// ADDX Dy,Dx
+pub fn exec_addx(size: Size, src: u32, dst: u32, flags: Flags) -> Answer
+    ensures { λ r. ⌜ r ≡ addxOf size src dst flags ⌝ }
+{
+    let result = add(size, src, dst, flags.x);
+    let new = keep_z(flags, set_add_flags(size, src, dst, result));
+    accepted(result, new, 4)
+}
+
+// SUB <ea>,Dn
+pub fn exec_sub(size: Size, src: u32, dst: u32, flags: Flags) -> Answer
+    ensures { λ r. ⌜ r ≡ subOf size src dst flags ⌝ }
+{
+    let result = subtract(size, src, dst, false);
+    let new = set_sub_flags(size, src, dst, result);
+    accepted(result, new, 4)
+}
+
+// SUBX Dy,Dx
+pub fn exec_subx(size: Size, src: u32, dst: u32, flags: Flags) -> Answer
+    ensures { λ r. ⌜ r ≡ subxOf size src dst flags ⌝ }
+{
+    let result = subtract(size, src, dst, flags.x);
+    let new = keep_z(flags, set_sub_flags(size, src, dst, result));
+    accepted(result, new, 4)
+}
+
+// CMP <ea>,Dn. The destination comes back as it was handed in.
+pub fn exec_cmp(size: Size, src: u32, dst: u32, flags: Flags) -> Answer
+    ensures { λ r. ⌜ r ≡ cmpOf size src dst flags ⌝ }
+{
+    let result = subtract(size, src, dst, false);
+    let new = set_cmp_flags(size, src, dst, result, flags);
+    accepted(dst, new, 4)
+}
+
+// NEG Dn: 0 - dst.
+pub fn exec_neg(size: Size, dst: u32, flags: Flags) -> Answer
+    ensures { λ r. ⌜ r ≡ negOf size dst flags ⌝ }
+{
+    let result = subtract(size, dst, 0, false);
+    let new = set_sub_flags(size, dst, 0, result);
+    accepted(result, new, figure(size, 4, 6))
+}
+
+// NEGX Dn: 0 - dst - X.
+pub fn exec_negx(size: Size, dst: u32, flags: Flags) -> Answer
+    ensures { λ r. ⌜ r ≡ negxOf size dst flags ⌝ }
+{
+    let result = subtract(size, dst, 0, flags.x);
+    let new = keep_z(flags, set_sub_flags(size, dst, 0, result));
+    accepted(result, new, figure(size, 4, 6))
+}
+
+// The flags after `result` = `dst` + `src`, from the three top bits. C as the source has it: the
+// Manual's formula with d and s gathered, which is short enough to be inlined everywhere.
+pub fn set_add_flags(size: Size, src: u32, dst: u32, result: u32) -> Flags
+    ensures { λ r. ⌜ r ≡ addFlags (bitsOf size) src dst result ⌝ }
+{
+    let s = top(size, src);
+    let d = top(size, dst);
+    let r = top(size, result);
+    arith_flags(size, result, (s ^ r) & (d ^ r), s & d | !r & (s | d))
+}
+
+// The flags after `result` = `dst` - `src`.
+pub fn set_sub_flags(size: Size, src: u32, dst: u32, result: u32) -> Flags
+    ensures { λ r. ⌜ r ≡ subFlags (bitsOf size) src dst result ⌝ }
+{
+    let s = top(size, src);
+    let d = top(size, dst);
+    let r = top(size, result);
+    arith_flags(size, result, (s ^ d) & (r ^ d), s & r | !d & (s | r))
+}
+
+// The same for CMP, which keeps X.
+pub fn set_cmp_flags(size: Size, src: u32, dst: u32, result: u32, flags: Flags) -> Flags
+    ensures { λ r. ⌜ r ≡ keepX flags (subFlags (bitsOf size) src dst result) ⌝ }
+{
+    let new = set_sub_flags(size, src, dst, result);
+    Flags {
+        x: flags.x,
+        n: new.n,
+        z: new.z,
+        v: new.v,
+        c: new.c,
+    }
+}
+
+// N and Z of the result; V and C are cleared, X is kept. (The source has it in data_movement.rs.)
+pub fn set_logic_flags(size: Size, result: u32, flags: Flags) -> Flags
+    ensures { λ r. ⌜ r ≡ logicFlags (bitsOf size) result flags ⌝ }
+{
+    Flags {
+        x: flags.x,
+        n: top(size, result),
+        z: masked(size, result as u64) == 0,
+        v: false,
+        c: false,
+    }
+}

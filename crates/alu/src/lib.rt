@@ -1,0 +1,6 @@
+// The 68000's register operations as pure functions on values and flags, after the crate m68k.
+//
+// Every public function takes every input: none has a `requires`. Each has one `ensures`, an
+// equation with a definition of specs/ that gives its whole answer. Nothing is assumed.
+pub mod integer_arith;
+pub mod types;

@@ -1,0 +1,122 @@
+// Sizes, flags and answers, and the few helpers that look at a size.
+ghost use mathlib.Core.Path.{_≡_};
+ghost use Rattle.alu.specs.Bits.{bitsOf, low, top, digit};
+ghost use Rattle.alu.specs.Answers.{numberOf, accepted, refused, figure};
+
+pub enum Size {
+    Byte,
+    Word,
+    Long,
+}
+
+// The condition codes: extend, negative, zero, overflow, carry.
+pub struct Flags {
+    pub x: bool,
+    pub n: bool,
+    pub z: bool,
+    pub v: bool,
+    pub c: bool,
+}
+
+// Whether an operation was accepted. BadCount and NoSuchSize are document 01's refusals 1 and 2.
+pub enum Verdict {
+    Accepted,
+    BadCount,
+    NoSuchSize,
+}
+
+// What an operation hands back. `clocks` is document 01's clock figure.
+pub struct Answer {
+    pub verdict: Verdict,
+    pub result: u32,
+    pub flags: Flags,
+    pub clocks: u32,
+}
+
+// Document 01's number of a refusal, 0 for none.
+pub fn number(verdict: Verdict) -> u32
+    ensures { λ r. ⌜ r ≡ numberOf verdict ⌝ }
+{
+    match verdict {
+        Verdict::Accepted => 0,
+        Verdict::BadCount => 1,
+        Verdict::NoSuchSize => 2,
+    }
+}
+
+// The low bits of a value, as many as the size has.
+pub fn masked(size: Size, x: u64) -> u32
+    ensures { λ r. ⌜ r ≡ low (bitsOf size) x ⌝ }
+{
+    match size {
+        Size::Byte => (x % 0x100) as u32,
+        Size::Word => (x % 0x1_0000) as u32,
+        Size::Long => (x % 0x1_0000_0000) as u32,
+    }
+}
+
+// The highest bit that the size has.
+pub fn top(size: Size, x: u32) -> bool
+    ensures { λ r. ⌜ r ≡ top (bitsOf size) x ⌝ }
+{
+    match size {
+        Size::Byte => x / 0x80 % 2 == 1,
+        Size::Word => x / 0x8000 % 2 == 1,
+        Size::Long => x / 0x8000_0000 % 2 == 1,
+    }
+}
+
+// A flag as a number.
+pub fn digit(flag: bool) -> u32
+    ensures { λ r. ⌜ r ≡ digit flag ⌝ }
+{
+    if flag { 1 } else { 0 }
+}
+
+// An accepted answer. Here and in `refused` the flags go over one by one: a `Flags` that is moved
+// whole becomes one 40-bit number, which the compiler packs and takes apart again at each step.
+pub fn accepted(result: u32, flags: Flags, clocks: u32) -> Answer
+    ensures { λ r. ⌜ r ≡ accepted result flags clocks ⌝ }
+{
+    Answer {
+        verdict: Verdict::Accepted,
+        result: result,
+        flags: Flags {
+            x: flags.x,
+            n: flags.n,
+            z: flags.z,
+            v: flags.v,
+            c: flags.c,
+        },
+        clocks: clocks,
+    }
+}
+
+// A refusal: result 0, figure 0, the flags as they came.
+pub fn refused(verdict: Verdict, flags: Flags) -> Answer
+    ensures { λ r. ⌜ r ≡ refused verdict flags ⌝ }
+{
+    Answer {
+        verdict: verdict,
+        result: 0,
+        flags: Flags {
+            x: flags.x,
+            n: flags.n,
+            z: flags.z,
+            v: flags.v,
+            c: flags.c,
+        },
+        clocks: 0,
+    }
+}
+
+// A clock figure that the long form has for itself.
+pub fn figure(size: Size, short: u32, long: u32) -> u32
+    ensures { λ r. ⌜ r ≡ figure size short long ⌝ }
+{
+    match size {
+        Size::Byte => short,
+        Size::Word => short,
+        Size::Long => long,
+    }
+}

@@ -1,0 +1,14 @@
+-- `weigh` meets its contract.
+-- Assumes nothing.
+use native.Mathlib.Omega.{arith}
+use Rattle.calls.proofs.weigh.Statement.{statement}
+use Rattle.calls.proofs.weigh.Tie as tie
+
+returns : tie.Need-returns
+returns c = rw (c .if1 .taken) (omega arith)
+
+returns-2 : tie.Need-returns-2
+returns-2 c = rw (c .if1 .left) (omega arith)
+
+pub weigh-spec : {M : Type 1} → statement M
+weigh-spec = tie.close (tie.spec returns returns-2)
