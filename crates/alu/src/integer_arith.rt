@@ -1,7 +1,7 @@
 // ADD, SUB, CMP and NEG with their X forms, on values and flags: integer_arith.rs of the crate m68k,
 // in its order. An operand may have bits above its size; they do not count.
 ghost use mathlib.Core.Path.{_≡_};
-ghost use Rattle.alu.specs.Bits.{bitsOf};
+ghost use Rattle.alu.specs.Bits.{bitsOf, top};
 ghost use Rattle.alu.specs.ConditionCodes.{arithFlags, addFlags, subFlags, logicFlags, keepZ, keepX};
 ghost use Rattle.alu.specs.Arith.{sum, difference, addOf, addxOf, subOf, subxOf, cmpOf, negOf, negxOf};
 use super::types::Answer;
@@ -29,15 +29,16 @@ fn subtract(size: Size, src: u32, dst: u32, x: bool) -> u32
     masked(size, whole)
 }
 
-// N and Z of the result, V and C as given, and X = C.
-fn arith_flags(size: Size, result: u32, v: bool, c: bool) -> Flags
-    ensures { λ r. ⌜ r ≡ arithFlags (bitsOf size) result v c ⌝ }
+// N and Z of the result, V and C from the top bits of two words, and X = C.
+fn arith_flags(size: Size, result: u32, overflow: u32, carry: u32) -> Flags
+    ensures { λ r. ⌜ r ≡ arithFlags (bitsOf size) result (top (bitsOf size) overflow) (top (bitsOf size) carry) ⌝ }
 {
+    let c = top(size, carry);
     Flags {
         x: c,
         n: top(size, result),
         z: masked(size, result as u64) == 0,
-        v: v,
+        v: top(size, overflow),
         c: c,
     }
 }
@@ -118,25 +119,23 @@ pub fn exec_negx(size: Size, dst: u32, flags: Flags) -> Answer
     accepted(result, new, figure(size, 4, 6))
 }
 
-// The flags after `result` = `dst` + `src`, from the three top bits. C as the source has it: the
-// Manual's formula with d and s gathered, which is short enough to be inlined everywhere.
+// The flags after `result` = `dst` + `src`. V: both operands have the one sign and the result the
+// other. C: both top bits are set, or one is and the result's is not.
 pub fn set_add_flags(size: Size, src: u32, dst: u32, result: u32) -> Flags
     ensures { λ r. ⌜ r ≡ addFlags (bitsOf size) src dst result ⌝ }
 {
-    let s = top(size, src);
-    let d = top(size, dst);
-    let r = top(size, result);
-    arith_flags(size, result, (s ^ r) & (d ^ r), s & d | !r & (s | d))
+    let overflow = (src ^ result) & (dst ^ result);
+    let carry = src & dst | !result & (src | dst);
+    arith_flags(size, result, overflow, carry)
 }
 
-// The flags after `result` = `dst` - `src`.
+// The flags after `result` = `dst` - `src`, which is the addition `src` + `result` = `dst`.
 pub fn set_sub_flags(size: Size, src: u32, dst: u32, result: u32) -> Flags
     ensures { λ r. ⌜ r ≡ subFlags (bitsOf size) src dst result ⌝ }
 {
-    let s = top(size, src);
-    let d = top(size, dst);
-    let r = top(size, result);
-    arith_flags(size, result, (s ^ d) & (r ^ d), s & r | !d & (s | r))
+    let overflow = (src ^ dst) & (result ^ dst);
+    let borrow = src & result | !dst & (src | result);
+    arith_flags(size, result, overflow, borrow)
 }
 
 // The same for CMP, which keeps X.

@@ -1,20 +1,21 @@
--- `set_add_flags` meets its contract: its callees' promises, the outermost first, and the source's V and C are the Manual's.
+-- `set_add_flags` meets its contract: the words of overflow and carry have the Manual's V and C in their top bits.
 -- Assumes nothing.
-use mathlib.Core.Bool.{xor}
+use Prim.Native.Nat.{_<_, _^_}
+use native.Mathlib.Omega.{arith}
 use borrow.Author.Needs.{needs}
 use Rattle.alu.specs.Bits.{bitsOf, top}
 use Rattle.alu.specs.ConditionCodes.{addFlags}
-use Rattle.alu.proofs.Formulas.{addV-short, addC-short}
+use Rattle.alu.proofs.Formulas.{overflow-word, carry-word}
 use Rattle.alu.proofs.integer_arith.set_add_flags.Statement.{statement}
 use Rattle.alu.proofs.integer_arith.set_add_flags.Tie as tie
 
 returns : tie.Need-returns
-unfolding addFlags xor
+unfolding addFlags
 returns c =
-    let a = c .before .before .before .before .args in
+    let a = c .before .args in
     let n = bitsOf (a .size) in
-    rw (c .arith-flags .ensures, c .before .top3 .ensures, c .before .before .top2 .ensures, c .before .before .before .top .ensures,
-    addV-short (top n (a .src)) (top n (a .dst)) (top n (a .result)), addC-short (top n (a .src)) (top n (a .dst)) (top n (a .result)))
+    let r-low : a .result < 2 ^ 32 = omega arith in
+    rw (c .arith-flags .ensures, overflow-word n (a .src) (a .dst) (a .result), carry-word (a .size) (a .src) (a .dst) r-low)
 
 pub set-add-flags-spec : {M : Type 1} → statement M
-set-add-flags-spec = tie.close (tie.spec (search needs) (search needs) (search needs) (search needs) returns)
+set-add-flags-spec = tie.close (tie.spec (search needs) returns)

@@ -1,20 +1,21 @@
--- `set_sub_flags` meets its contract: its callees' promises, the outermost first, and the source's V and C are the Manual's.
+-- `set_sub_flags` meets its contract: the words of the addition `src` + `result` = `dst` have the Manual's V and C in their top bits.
 -- Assumes nothing.
-use mathlib.Core.Bool.{xor}
+use Prim.Native.Nat.{_<_, _^_}
+use native.Mathlib.Omega.{arith}
 use borrow.Author.Needs.{needs}
 use Rattle.alu.specs.Bits.{bitsOf, top}
 use Rattle.alu.specs.ConditionCodes.{subFlags}
-use Rattle.alu.proofs.Formulas.{subV-short, subC-short}
+use Rattle.alu.proofs.Formulas.{overflow-word, carry-word, swapV, swapC}
 use Rattle.alu.proofs.integer_arith.set_sub_flags.Statement.{statement}
 use Rattle.alu.proofs.integer_arith.set_sub_flags.Tie as tie
 
 returns : tie.Need-returns
-unfolding subFlags xor
+unfolding subFlags
 returns c =
-    let a = c .before .before .before .before .args in
+    let a = c .before .args in
     let n = bitsOf (a .size) in
-    rw (c .arith-flags .ensures, c .before .top3 .ensures, c .before .before .top2 .ensures, c .before .before .before .top .ensures,
-    subV-short (top n (a .src)) (top n (a .dst)) (top n (a .result)), subC-short (top n (a .src)) (top n (a .dst)) (top n (a .result)))
+    let d-low : a .dst < 2 ^ 32 = omega arith in
+    rw (c .arith-flags .ensures, overflow-word n (a .src) (a .result) (a .dst), carry-word (a .size) (a .src) (a .result) d-low, swapV (top n (a .src)) (top n (a .dst)) (top n (a .result)), swapC (top n (a .src)) (top n (a .dst)) (top n (a .result)))
 
 pub set-sub-flags-spec : {M : Type 1} → statement M
-set-sub-flags-spec = tie.close (tie.spec (search needs) (search needs) (search needs) (search needs) returns)
+set-sub-flags-spec = tie.close (tie.spec (search needs) returns)
