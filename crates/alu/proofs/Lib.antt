@@ -4,3 +4,6 @@ mod Bitwise
 mod Formulas
 mod Whole
 pub mod Laws
+pub mod Integers
+pub mod Wide
+pub mod Sums

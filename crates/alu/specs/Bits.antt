@@ -31,6 +31,10 @@ abbrev pub digit : Bool → ℕ
 digit true = 1
 digit false = 0
 
+-- the number whose low n bits are a and whose bits above are b
+abbrev pub join : (n a b : ℕ) → ℕ
+join n a b = b * 2 ^ n + a
+
 -- the signed reading of n bits (two's complement): the low bits, less 2 ^ n if the top bit is set
 unfoldable pub signed : (n x : ℕ) → ℤ
 signed n x = pos (low n x) -ℤ pos (digit (top n x) * 2 ^ n)

@@ -28,11 +28,11 @@ withX f = record { x = true; n = f .n; z = f .z; v = f .v; c = f .c }
 unfoldable pub table : List Row
 table =
     --                                                    X     N     Z     V     C
-    gives (addOf Byte 0x01 0x7f) 0x80                     clear set   clear set   clear ∷     -- 1
-    gives (addOf Byte 0x01 0xff) 0x00                     set   clear set   clear set ∷       -- 2
-    gives (λ f. addxOf Long 0 0xffff_ffff (withX f)) 0    set   any   same  any   set ∷       -- 3
-    gives (λ f. subxOf Byte 0xff 0x00 (withX f)) 0x00     set   any   same  clear set ∷       -- 4
-    gives (negOf Byte 0x80) 0x80                          set   set   clear set   set ∷ []    -- 5
+    gives (addOf Byte 0x01 0x7f) 0x80 clear set clear set clear ∷  -- 1
+    gives (addOf Byte 0x01 0xff) 0x00 set clear set clear set ∷  -- 2
+    gives (λ f. addxOf Long 0 0xffff_ffff (withX f)) 0 set any same any set ∷  -- 3
+    gives (λ f. subxOf Byte 0xff 0x00 (withX f)) 0x00 set any same clear set ∷  -- 4
+    gives (negOf Byte 0x80) 0x80 set set clear set set ∷ []  -- 5
 
 -- `after` is what a row says of a flag that was `before`
 abbrev pub meets : Said → (before after : Bool) → Bool

@@ -1,0 +1,11 @@
+-- Document 01, "Proved sums": every row of the table holds, whatever the flags before.
+-- Assumes nothing.
+use lib.Dec.{T}
+use Rattle.alu.specs.Bits.{top}
+use Rattle.alu.specs.ConditionCodes.{addFlags, subFlags, negFlags}
+use Rattle.alu.specs.Arith.{sum, difference}
+use Rattle.alu.specs.Sums.{table, every, holds, holdsAt, atBoth}
+
+pub sums : T (every holds table)
+unfolding table every holds holdsAt atBoth top sum difference addFlags subFlags negFlags
+sums = tt
