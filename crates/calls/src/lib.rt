@@ -4,7 +4,7 @@ ghost use mathlib.Core.Path.{_≡_};
 ghost use Prim.Native.Nat.{_*_, _≤_};
 ghost use Rattle.alu.specs.Bits.{digit};
 ghost use Rattle.alu.specs.Answers.{numberOf};
-ghost use Rattle.calls.specs.Packed.{named, opOf, sizeOf, flagsOf, ccrOf, packed, answerOf, callOf};
+ghost use Rattle.calls.specs.Packed.{sizeOf, flagsOf, ccrOf, packed, answerOf, callOf};
 use alu::integer_arith::exec_add;
 use alu::integer_arith::exec_addx;
 use alu::integer_arith::exec_cmp;
@@ -18,43 +18,21 @@ use alu::types::Size;
 use alu::types::Verdict;
 use alu::types::refused;
 
-// The operations that have a number. `Unlisted` stands for every number that names none.
-enum Op {
-    Add,
-    Sub,
-    Cmp,
-    Addx,
-    Subx,
-    Neg,
-    Negx,
-    Unlisted,
+// The size of a number. One `match` with a default of its own: the compiler then sees that a size
+// and its number are the same.
+enum Found {
+    Is(Size),
+    NoSize,
 }
 
-fn op_of(number: u8, size: u8) -> Op
-    ensures { λ r. ⌜ r ≡ opOf number size ⌝ }
-{
-    if 2 < size {
-        return Op::Unlisted;
-    }
-    match number {
-        0x00 => Op::Add,
-        0x01 => Op::Sub,
-        0x02 => Op::Cmp,
-        0x03 => Op::Addx,
-        0x04 => Op::Subx,
-        0x0d => Op::Neg,
-        0x0e => Op::Negx,
-        _ => Op::Unlisted,
-    }
-}
-
-fn size_of(number: u8) -> Size
+fn size_of(number: u8) -> Found
     ensures { λ r. ⌜ r ≡ sizeOf number ⌝ }
 {
     match number {
-        0 => Size::Byte,
-        1 => Size::Word,
-        _ => Size::Long,
+        0 => Found::Is(Size::Byte),
+        1 => Found::Is(Size::Word),
+        2 => Found::Is(Size::Long),
+        _ => Found::NoSize,
     }
 }
 
@@ -103,18 +81,19 @@ fn pack(a: Answer) -> u64
         + number_of(verdict) * 0x1_0000_0000_0000
 }
 
-fn answer(op: Op, size: Size, src: u32, dst: u32, flags: Flags) -> Answer
+// The operation of that number.
+fn answer(op: u8, size: Size, src: u32, dst: u32, flags: Flags) -> Answer
     ensures { λ r. ⌜ r ≡ answerOf op size src dst flags ⌝ }
 {
     match op {
-        Op::Add => exec_add(size, src, dst, flags),
-        Op::Sub => exec_sub(size, src, dst, flags),
-        Op::Cmp => exec_cmp(size, src, dst, flags),
-        Op::Addx => exec_addx(size, src, dst, flags),
-        Op::Subx => exec_subx(size, src, dst, flags),
-        Op::Neg => exec_neg(size, dst, flags),
-        Op::Negx => exec_negx(size, dst, flags),
-        Op::Unlisted => refused(Verdict::NoSuchSize, flags),
+        0x00 => exec_add(size, src, dst, flags),
+        0x01 => exec_sub(size, src, dst, flags),
+        0x02 => exec_cmp(size, src, dst, flags),
+        0x03 => exec_addx(size, src, dst, flags),
+        0x04 => exec_subx(size, src, dst, flags),
+        0x0d => exec_neg(size, dst, flags),
+        0x0e => exec_negx(size, dst, flags),
+        _ => refused(Verdict::NoSuchSize, flags),
     }
 }
 
@@ -123,9 +102,11 @@ fn answer(op: Op, size: Size, src: u32, dst: u32, flags: Flags) -> Answer
 pub extern "C" fn alu_call(op: u8, size: u8, src: u32, dst: u32, ccr: u8) -> u64
     ensures { λ r. ⌜ r ≡ callOf op size src dst ccr ⌝ }
 {
-    let o = op_of(op, size);
-    let z = size_of(size);
     let f = flags_of(ccr);
-    let a = answer(o, z, src, dst, f);
+    let Found::Is(z) = size_of(size) else {
+        let none = refused(Verdict::NoSuchSize, f);
+        return pack(none);
+    };
+    let a = answer(op, z, src, dst, f);
     pack(a)
 }

@@ -1,0 +1,108 @@
+//! Differential run: the crate against the reading of document 01 on all operations, then the port
+//! against both on the operations that it has.
+//!
+//!   differ [MILLIONS]   random cases of each operation and size (default 2); the port gets thrice that
+
+use compare::cases;
+use compare::check::{Tally, crate_and_reading, port_and_both};
+use compare::oracle::Oracle;
+use compare::packed::{Answer, OPS, SIZES};
+use compare::port::{self, PORTED, alu_call};
+use std::process::ExitCode;
+use std::time::Instant;
+
+/// The port's share of random cases: with the default, over 10^8 cases for its first seven operations.
+const PORT_SHARE: u64 = 3;
+
+/// Operands of the requests whose numbers or flags stray: all zero, all set, a sum that carries.
+const STRAY: [(u32, u32); 3] = [(0, 0), (u32::MAX, u32::MAX), (0x8000_8080, 0x8765_4321)];
+
+fn crate_part(random: u64) -> Tally {
+    println!("crate against the reading of 01");
+    let mut all = Tally::default();
+    for op in OPS {
+        for &size in op.sizes() {
+            let (mut oracle, mut tally) = (Oracle::default(), Tally::default());
+            cases::each(op, size, random, |r| crate_and_reading(&mut oracle, r, &mut tally));
+            tally.print(format!("{op:?} {size:?}"));
+            all += tally;
+        }
+    }
+    all
+}
+
+/// All three sizes of each operation, so that refused ones are asked too.
+fn port_part(random: u64) -> Tally {
+    println!("port against the crate and the reading of 01");
+    let mut all = Tally::default();
+    for op in PORTED {
+        for size in SIZES {
+            let (mut oracle, mut tally) = (Oracle::default(), Tally::default());
+            cases::each(op, size, random, |r| port_and_both(port::answer(r), &mut oracle, r, &mut tally));
+            tally.print(format!("{op:?} {size:?}"));
+            all += tally;
+        }
+    }
+    all
+}
+
+/// Counts whether the port answers as `wanted` to numbers that need not name an operation or a size.
+fn stray(op: u8, size: u8, ccr: u8, wanted: impl Fn(u32, u32) -> Answer, tally: &mut Tally) {
+    for (src, dst) in STRAY {
+        let (port, wanted) = (alu_call(op, size, src, dst, ccr), wanted(src, dst));
+        tally.count(port == wanted, || {
+            let request = format!("op {op:02X} size {size:02X} src {src:08X} dst {dst:08X} ccr {ccr:02X}");
+            format!("{request}\n  port     {port}\n  wanted   {wanted}")
+        });
+    }
+}
+
+/// Every pair of numbers that names no operation of the port or no size: refusal 2.
+fn unknown_numbers() -> Tally {
+    let mut tally = Tally::default();
+    let known = |op, size| size < 3 && PORTED.iter().any(|ported| ported.number() == op);
+    for op in 0..=u8::MAX {
+        for size in (0..=u8::MAX).filter(|&size| !known(op, size)) {
+            for ccr in 0..32 {
+                stray(op, size, ccr, |_, _| Answer::refused(2, ccr), &mut tally);
+            }
+        }
+    }
+    tally.print("unknown operation numbers and sizes");
+    tally
+}
+
+/// Bits above X in the flags don't count, as in the crate's `set_ccr`.
+fn dirty_flags() -> Tally {
+    let mut tally = Tally::default();
+    for op in PORTED.map(|op| op.number()) {
+        for size in SIZES.map(|size| size.number()) {
+            for ccr in 32..=u8::MAX {
+                stray(op, size, ccr, |src, dst| alu_call(op, size, src, dst, ccr & 31), &mut tally);
+            }
+        }
+    }
+    tally.print("flags with bits above X");
+    tally
+}
+
+fn main() -> ExitCode {
+    let millions: Option<u64> = std::env::args().nth(1).map_or(Some(2), |word| word.parse().ok());
+    let Some(millions) = millions else {
+        eprintln!("usage: differ [MILLIONS]");
+        return ExitCode::from(2);
+    };
+    let start = Instant::now();
+    let random = millions * 1_000_000;
+    let by_crate = crate_part(random);
+    let mut by_port = port_part(PORT_SHARE * random);
+    by_port += unknown_numbers();
+    by_port += dirty_flags();
+    let differing = by_crate.differing + by_port.differing;
+    let seconds = start.elapsed().as_secs_f64();
+    println!(
+        "total: crate {} cases, port {} cases, {differing} differ, {seconds:.0} s",
+        by_crate.cases, by_port.cases
+    );
+    if differing == 0 { ExitCode::SUCCESS } else { ExitCode::FAILURE }
+}

@@ -1,0 +1,23 @@
+//! The m68k crate's own operations as oracle, a second reading of document 01 to hold it to, and the
+//! proved port to hold to both.
+
+/// The crate's module tree: its text where it lies (see build.rs), the rest from `shim`. Lints are off
+/// here only, since the text isn't ours to change.
+#[allow(unused, clippy::all)]
+pub mod core {
+    include!(concat!(env!("OUT_DIR"), "/core.rs"));
+    pub mod instructions {
+        include!(concat!(env!("OUT_DIR"), "/instructions.rs"));
+    }
+    pub use crate::shim::{execute, memory, op_cache, timing, timing_060, trace_jit, window};
+}
+pub use shim::{fpu, mmu};
+
+pub mod cases;
+pub mod check;
+pub mod document;
+pub mod oracle;
+pub mod packed;
+pub mod port;
+pub mod shim;
+pub mod vectors;
