@@ -8,7 +8,10 @@ use lib.Dec.{lit<, lit≤}
 use lib.Pow.{pow-pos}
 use Rattle.alu.specs.declared.types.Size.{Size}
 use Rattle.alu.specs.declared.types.Size.the-variants.{Byte, Word, Long}
+use Rattle.alu.specs.declared.types.Verdict.{Verdict}
+use Rattle.alu.specs.declared.types.Verdict.the-variants.{Accepted, BadCount, NoSuchSize}
 use Rattle.alu.specs.Bits.{bitsOf, low, digit}
+use Rattle.alu.specs.Answers.{numberOf}
 
 -- a size has from 1 to 32 bits
 pub bits-pos : (size : Size) → 0 < bitsOf size
@@ -20,6 +23,12 @@ pub bits-le : (size : Size) → bitsOf size ≤ 32
 bits-le Byte = lit≤ tt
 bits-le Word = lit≤ tt
 bits-le Long = lit≤ tt
+
+-- no refusal here has a number above 2
+pub number-le : (verdict : Verdict) → numberOf verdict ≤ 2
+number-le Accepted = lit≤ tt
+number-le BadCount = lit≤ tt
+number-le NoSuchSize = lit≤ tt
 
 pub digit-le : (b : Bool) → digit b ≤ 1
 digit-le true = lit≤ tt

@@ -1,7 +1,8 @@
 -- V and LT in the integers, proved once over the number n of bits:
---     add-over, sub-over   V: the true signed sum, difference, doesn't fit n bits
---     add-true, sub-true   where V is clear the result reads as the true signed sum, difference
---     sub-below            the condition LT after d - s: d is below s
+--     add-overflow, sub-overflow   V: the true signed sum, difference, doesn't fit n bits
+--     add-signed, sub-signed       where V is clear the result reads as the true signed sum, difference
+--     sub-less                     the condition LT after d - s: d is below s
+--     signed-raised                `raised` is the signed reading, raised by 2 ^ (n - 1)
 -- Assumes nothing.
 use mathlib.Core.Path.{_≡_, _∙_, ap, sym, refl}
 use mathlib.Core.Bool.{Bool, true, false, not, cond, _&&_, _||_}
@@ -13,9 +14,9 @@ use lib.Signed.{leZ, ltZ}
 use borrow.Author.Tests.{lt-ltb, le-ltb, le-leb, lt-leb, ltb-true, ltb-false}
 use Rattle.alu.specs.Bits.{low, top, raised, signed, fits, digit}
 use Rattle.alu.specs.ConditionCodes.{isLT, addFlags, subFlags}
-use Rattle.alu.specs.Arith.{sum, difference}
+use Rattle.alu.specs.Arith.{sum, difference, trueSum, trueDifference}
 use Rattle.alu.proofs.Signed.{reads, pow-half}
-use Rattle.alu.proofs.Laws.{add-signed, add-overflow, sub-signed, sub-overflow, sub-less}
+use Rattle.alu.proofs.Laws.{add-raised, add-overflow-raised, sub-raised, sub-overflow-raised, sub-less-raised}
 
 -- ---- differences of naturals in the integers
 
@@ -120,18 +121,11 @@ no-fit n p q =
 -- ---- the signed reading
 
 -- `raised` is the signed reading, raised by 2 ^ (n - 1)
-pub signed-raised : (n : ℕ) → 0 < n → (x : ℕ) → signed n x ≡ minus (raised n x) (2 ^ (n - 1))
+pub signed-raised : (n : ℕ) → 0 < n → (x : ℕ) → signed n x ≡ pos (raised n x) -ℤ pos (2 ^ (n - 1))
 unfolding signed
 signed-raised n positive x =
     minus-same (low n x) (digit (top n x) * 2 ^ n) (raised n x) (2 ^ (n - 1))
     (sym (reads n positive x .again) ∙ ap (λ (k : ℕ). raised n x + digit (top n x) * k) (sym (pow-half n positive)))
-
--- the true signed sum s + d + x and difference d - s - x
-abbrev pub trueSum : (n s d : ℕ) → Bool → ℤ
-trueSum n s d x = signed n s +ℤ signed n d +ℤ pos (digit x)
-
-abbrev pub trueDifference : (n s d : ℕ) → Bool → ℤ
-trueDifference n s d x = signed n d -ℤ signed n s -ℤ pos (digit x)
 
 module _ (n : ℕ) (positive : 0 < n) (s d : ℕ) (x : Bool) where
   sum-raised : trueSum n s d x ≡ minus (raised n s + raised n d + digit x) (2 ^ (n - 1) + 2 ^ (n - 1) + 0)
@@ -147,37 +141,37 @@ module _ (n : ℕ) (positive : 0 < n) (s d : ℕ) (x : Bool) where
       (minus-add (raised n d + h) (h + raised n s) 0 (digit x) ∙
       minus-same (raised n d + h + 0) (h + raised n s + digit x) (raised n d) (raised n s + digit x) (omega arith))
 
-  pub add-over : addFlags n s d (sum n s d x) .v ≡ not (fits n (trueSum n s d x))
-  add-over =
+  pub add-overflow : addFlags n s d (sum n s d x) .v ≡ not (fits n (trueSum n s d x))
+  add-overflow =
       let h = 2 ^ (n - 1) in
       let t = raised n s + raised n d + digit x in
       let under : ltb (t + h) (h + h + 0) ≡ ltb t h = ltb-same (t + h) (h + h + 0) t h (λ l. omega arith) (λ l. omega arith) in
       let past : h + h + 0 + h ≡ 3 * h = omega arith in
-      add-overflow n positive s d x ∙ rw sum-raised (sym (no-fit n t (h + h + 0) ∙ rw (under, past)))
+      add-overflow-raised n positive s d x ∙ rw sum-raised (sym (no-fit n t (h + h + 0) ∙ rw (under, past)))
 
-  pub add-true : addFlags n s d (sum n s d x) .v ≡ false → signed n (sum n s d x) ≡ trueSum n s d x
-  add-true clear =
+  pub add-signed : addFlags n s d (sum n s d x) .v ≡ false → signed n (sum n s d x) ≡ trueSum n s d x
+  add-signed clear =
       let h = 2 ^ (n - 1) in
-      let reads-so : raised n (sum n s d x) + h ≡ raised n s + raised n d + digit x = add-signed n positive s d x clear in
+      let reads-so : raised n (sum n s d x) + h ≡ raised n s + raised n d + digit x = add-raised n positive s d x clear in
       signed-raised n positive (sum n s d x) ∙
       minus-same (raised n (sum n s d x)) h (raised n s + raised n d + digit x) (h + h + 0) (omega arith) ∙ sym sum-raised
 
-  pub sub-over : subFlags n s d (difference n s d x) .v ≡ not (fits n (trueDifference n s d x))
-  sub-over = sub-overflow n positive s d x ∙ rw difference-raised (sym (no-fit n (raised n d) (raised n s + digit x)))
+  pub sub-overflow : subFlags n s d (difference n s d x) .v ≡ not (fits n (trueDifference n s d x))
+  sub-overflow = sub-overflow-raised n positive s d x ∙ rw difference-raised (sym (no-fit n (raised n d) (raised n s + digit x)))
 
-  pub sub-true : subFlags n s d (difference n s d x) .v ≡ false → signed n (difference n s d x) ≡ trueDifference n s d x
-  sub-true clear =
+  pub sub-signed : subFlags n s d (difference n s d x) .v ≡ false → signed n (difference n s d x) ≡ trueDifference n s d x
+  sub-signed clear =
       let h = 2 ^ (n - 1) in
       let r = difference n s d x in
-      let reads-so : raised n d + h ≡ raised n s + raised n r + digit x = sub-signed n positive s d x clear in
+      let reads-so : raised n d + h ≡ raised n s + raised n r + digit x = sub-raised n positive s d x clear in
       signed-raised n positive r ∙ minus-same (raised n r) h (raised n d) (raised n s + digit x) (omega arith) ∙ sym difference-raised
 
 -- LT after d - s
-pub sub-below :
+pub sub-less :
     (n : ℕ) → 0 < n → (s d : ℕ) →
     isLT (subFlags n s d (difference n s d false) .n) (subFlags n s d (difference n s d false) .v) ≡ ltZ (signed n d) (signed n s)
-sub-below n positive s d =
+sub-less n positive s d =
     let h = 2 ^ (n - 1) in
-    sub-less n positive s d ∙
+    sub-less-raised n positive s d ∙
     rw (signed-raised n positive d, signed-raised n positive s, minus-less (raised n d) h (raised n s) h)
     (ltb-same (raised n d) (raised n s) (raised n d + h) (raised n s + h) (λ l. omega arith) (λ l. omega arith))

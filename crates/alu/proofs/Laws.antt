@@ -1,10 +1,11 @@
 -- What the Manual's C and V say in numbers, proved once over the number n of bits:
---     add-carry, sub-borrow        C is the carry, the borrow
---     add-exact, sub-exact         so the result and C are the whole sum, the whole difference
---     add-overflow, sub-overflow   V: the true signed sum, difference, doesn't fit (`Integers` says it in the integers)
---     add-signed, sub-signed       where V is clear the result reads as the true signed sum, difference
---     sub-less                     the condition LT after d - s: d is below s, signed
---     neg-flags                    NEG's row is that of 0 - d
+--     add-carry, sub-borrow                      C is the carry, the borrow
+--     add-exact, sub-exact                       so the result and C are the whole sum, the whole difference
+--     add-overflow-raised, sub-overflow-raised   V: the true signed sum, difference, doesn't fit
+--     add-raised, sub-raised                     where V is clear the result reads as the true signed sum, difference
+--     sub-less-raised                            the condition LT after d - s: d is below s, signed
+--     neg-flags                                  NEG's row is that of 0 - d
+-- The signed reading is raised to a natural number here; `Integers` has the same laws in the integers.
 -- Assumes nothing.
 use mathlib.Core.Path.{_≡_, _∙_, ap, sym, refl}
 use mathlib.Core.Bool.{Bool, true, false, _||_}
@@ -22,8 +23,8 @@ use Rattle.alu.proofs.Formulas.{swapV, swapC, negV-is, negC-is}
 use Rattle.alu.proofs.Signed.{Reads, reads, pow-half}
 
 -- An addition a + b + x = t with carry k, of numbers below 2h, which read a′, b′, t′ as signed numbers raised by h. A, B, T are the top bits.
--- C is the carry. V is clear exactly if the true signed sum, raised by 2h, lies from h up to 3h, and then t reads as that sum.
--- Read backwards, as the difference b = t - a - x, C is the borrow, and V is clear exactly if the true signed difference lies from -h up to h;
+-- C is the carry. V is clear exactly if the true signed sum, raised by 2h, lies from h to below 3h, and then t reads as that sum.
+-- Read backwards, as the difference b = t - a - x, C is the borrow, and V is clear exactly if the true signed difference lies from -h to below h;
 -- and without x the Manual's LT, of b's sign and V, says that t is below a.
 record Adder (h : ℕ) (A B T : Bool) (a′ b′ t′ x : ℕ) (k : Bool) : Type 0 where
   carry : digit (addC A B T) ≡ digit k
@@ -67,15 +68,15 @@ is-below true i j yes-it no-it = sym (lt-ltb i j (yes-it refl))
 is-below false i j yes-it no-it = sym (le-ltb i j (no-it refl))
 
 is-outside :
-    (v : Bool) (t low high t′ : ℕ) → (digit v ≡ 0 → (low ≤ t) × (t′ < high)) → (digit v ≡ 1 → low ≤ t → t′ < high → ⊥) →
-    v ≡ (ltb t low || leb high t′)
-is-outside false t low high t′ clear over =
-    let c = clear refl in rw (le-ltb t low (c .0), lt-leb high t′ (c .1))
-is-outside true t low high t′ clear over = beyond (ltb t low) refl where
-  beyond : (b : Bool) → ltb t low ≡ b → true ≡ (b || leb high t′)
+    (v : Bool) (t least past t′ : ℕ) → (digit v ≡ 0 → (least ≤ t) × (t′ < past)) → (digit v ≡ 1 → least ≤ t → t′ < past → ⊥) →
+    v ≡ (ltb t least || leb past t′)
+is-outside false t least past t′ clear over =
+    let c = clear refl in rw (le-ltb t least (c .0), lt-leb past t′ (c .1))
+is-outside true t least past t′ clear over = beyond (ltb t least) refl where
+  beyond : (b : Bool) → ltb t least ≡ b → true ≡ (b || leb past t′)
   beyond true e = refl
   beyond false e =
-      let far : t′ < high → ⊥ = over refl (ltb-false t low e) in sym (le-leb high t′ (omega arith))
+      let far : t′ < past → ⊥ = over refl (ltb-false t least e) in sym (le-leb past t′ (omega arith))
 
 -- the remainder of a sum below 2 N, and that of a difference, with the carry and the borrow
 wrap-sum : (N t : ℕ) → t < 2 * N → t ≡ t % N + digit (leb N t) * N
@@ -135,17 +136,17 @@ module _ (n : ℕ) (positive : 0 < n) (s d : ℕ) (x : Bool) where
       rw add-carry (wrap-sum (2 ^ n) (low n d + low n s + digit x) (omega (arith, low-lt n s, low-lt n d, digit-le x)))
 
   -- V: the true signed sum is below -2 ^ (n - 1), or not below 2 ^ (n - 1); here it is raised by twice that
-  pub add-overflow :
+  pub add-overflow-raised :
       addFlags n s d (sum n s d x) .v ≡
       (ltb (raised n s + raised n d + digit x) (2 ^ (n - 1)) || leb (3 * 2 ^ (n - 1)) (raised n s + raised n d + digit x))
   unfolding addFlags
-  add-overflow =
+  add-overflow-raised =
       is-outside _ _ _ _ _ (sum-adder .clear) (sum-adder .over)
 
   -- and if V is clear the result reads as the true signed sum
-  pub add-signed : addFlags n s d (sum n s d x) .v ≡ false → raised n (sum n s d x) + 2 ^ (n - 1) ≡ raised n s + raised n d + digit x
+  pub add-raised : addFlags n s d (sum n s d x) .v ≡ false → raised n (sum n s d x) + 2 ^ (n - 1) ≡ raised n s + raised n d + digit x
   unfolding addFlags
-  add-signed clear = sum-adder .signed (ap digit clear)
+  add-raised clear = sum-adder .signed (ap digit clear)
 
 -- d - s - x in n bits
 module _ (n : ℕ) (positive : 0 < n) (s d : ℕ) (x : Bool) where
@@ -174,24 +175,24 @@ module _ (n : ℕ) (positive : 0 < n) (s d : ℕ) (x : Bool) where
   sub-exact = rw sub-borrow exact
 
   -- V: the true signed difference doesn't fit
-  pub sub-overflow :
+  pub sub-overflow-raised :
       subFlags n s d (difference n s d x) .v ≡
       (ltb (raised n d + 2 ^ (n - 1)) (raised n s + digit x) || leb (raised n s + digit x + 2 ^ (n - 1)) (raised n d))
   unfolding subFlags
-  sub-overflow = rw (← swapV) (is-outside _ _ _ _ _ (difference-adder .back-clear) (difference-adder .back-over))
+  sub-overflow-raised = rw (← swapV) (is-outside _ _ _ _ _ (difference-adder .back-clear) (difference-adder .back-over))
 
   -- and if V is clear the result reads as the true signed difference
-  pub sub-signed :
+  pub sub-raised :
       subFlags n s d (difference n s d x) .v ≡ false → raised n d + 2 ^ (n - 1) ≡ raised n s + raised n (difference n s d x) + digit x
   unfolding subFlags
-  sub-signed clear = difference-adder .signed (ap digit (swapV (top n s) (top n d) (top n (difference n s d x)) ∙ clear))
+  sub-raised clear = difference-adder .signed (ap digit (swapV (top n s) (top n d) (top n (difference n s d x)) ∙ clear))
 
 -- after d - s the Manual's LT says that d is below s, both read as signed numbers
-pub sub-less :
+pub sub-less-raised :
     (n : ℕ) → 0 < n → (s d : ℕ) →
     isLT (subFlags n s d (difference n s d false) .n) (subFlags n s d (difference n s d false) .v) ≡ ltb (raised n d) (raised n s)
 unfolding subFlags
-sub-less n positive s d =
+sub-less-raised n positive s d =
     let a = difference-adder n positive s d false in rw (← swapV) (is-below _ _ _ (a .less refl) (a .not-less refl))
 
 -- NEG's formulas are those of 0 - d

@@ -112,7 +112,7 @@ module _ (n m : ℕ) (n-pos : 0 < n) (m-pos : 0 < m) (s₀ s₁ d₀ d₁ : ℕ)
     unfolding subFlags
     wide-sub-flags = rw (join-top n m m-pos s-low s₁, join-top n m m-pos d-low d₁, join-top n m m-pos r-low r₁, r-zero, and-comm (eqb (low m r₁) 0))
 
-  -- ADDX after ADD or ADDX
+  -- x goes into the low part: false for ADD, X for an ADDX whose Z comes in set. ADDX does the high part.
   pub wide-add :
       let s = join n s₀ s₁ in
       let d = join n d₀ d₁ in
@@ -126,7 +126,7 @@ module _ (n m : ℕ) (n-pos : 0 < n) (m-pos : 0 < m) (s₀ s₁ d₀ d₁ : ℕ)
       let r₁ = sum m s₁ d₁ (addFlags n s₀ d₀ r₀ .c) in
       (sym wide-sum, sym (wide-add-flags r₀ r₁ (sum-lt n s₀ d₀ x)) ∙ ap (addFlags (n + m) (join n s₀ s₁) (join n d₀ d₁)) (sym wide-sum))
 
-  -- SUBX after SUB or SUBX
+  -- The same of SUB, SUBX.
   pub wide-sub :
       let s = join n s₀ s₁ in
       let d = join n d₀ d₁ in

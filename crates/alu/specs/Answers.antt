@@ -21,7 +21,7 @@ accepted result flags clocks = record { verdict = Accepted; result = result; fla
 abbrev pub refused : Verdict → Flags → Answer
 refused verdict flags = record { verdict = verdict; result = 0; flags = flags; clocks = 0 }
 
--- a clock figure that the long form has for itself
+-- a clock figure: `short` for byte and word, `long` for long
 abbrev pub figure : Size → (short long : ℕ) → ℕ
 figure Byte short long = short
 figure Word short long = short

@@ -1,11 +1,12 @@
 -- The integer arithmetic of the register forms: document 01, "Result and flag rules" and "Clock figures".
--- s is the source, d the destination, f the flags before. Assumes nothing.
+-- s is the source, d the destination, f the flags before (ADD, SUB and NEG take it for the one shape and do not look at it). Assumes nothing.
 use Prim.Native.Nat.{ℕ, _+_, _-_, _%_, _^_}
 use mathlib.Core.Bool.{Bool, false}
+use lib.IntN.{ℤ, pos, _+ℤ_, _-ℤ_}
 use Rattle.alu.specs.declared.types.Size.{Size}
 use Rattle.alu.specs.declared.types.Flags.{Flags}
 use Rattle.alu.specs.declared.types.Answer.{Answer}
-use Rattle.alu.specs.Bits.{bitsOf, low, digit}
+use Rattle.alu.specs.Bits.{bitsOf, low, digit, signed}
 use Rattle.alu.specs.ConditionCodes.{addFlags, subFlags, negFlags, keepZ, keepX}
 use Rattle.alu.specs.Answers.{accepted, figure}
 
@@ -15,6 +16,13 @@ sum n s d x = (low n d + low n s + digit x) % 2 ^ n
 
 unfoldable pub difference : (n s d : ℕ) → (x : Bool) → ℕ
 difference n s d x = (2 ^ n + low n d - (low n s + digit x)) % 2 ^ n
+
+-- the true signed sum and difference, as integers
+abbrev pub trueSum : (n s d : ℕ) → (x : Bool) → ℤ
+trueSum n s d x = signed n s +ℤ signed n d +ℤ pos (digit x)
+
+abbrev pub trueDifference : (n s d : ℕ) → (x : Bool) → ℤ
+trueDifference n s d x = signed n d -ℤ signed n s -ℤ pos (digit x)
 
 -- ADD, ADDX
 abbrev pub addOf : Size → (s d : ℕ) → Flags → Answer

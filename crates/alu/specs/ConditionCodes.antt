@@ -1,5 +1,6 @@
 -- The condition codes: the Manual's table of condition code computations, row by row.
--- s, d and r are the source, the destination and the result; the formulas take their top bits Sm, Dm, Rm. Assumes nothing.
+-- s, d and r are the source, the destination and the result; the formulas take their top bits Sm, Dm, Rm. n is the number of bits;
+-- the field `n` of `Flags` is the flag N. Assumes nothing.
 use Prim.Native.Nat.{ℕ}
 use mathlib.Core.Bool.{Bool, false, not, _&&_, _||_}
 use lib.Dec.{eqb}
@@ -27,10 +28,6 @@ negV d r = d && r
 abbrev pub negC : (d r : Bool) → Bool
 negC d r = d || r
 
--- the condition LT
-abbrev pub isLT : (n v : Bool) → Bool
-isLT n v = n && not v || not n && v
-
 -- N = Rm, Z = no bit of the result is set, V and C as given, X = C
 abbrev pub arithFlags : (n r : ℕ) (v c : Bool) → Flags
 arithFlags n r v c = record { x = c; n = top n r; z = eqb (low n r) 0; v = v; c = c }
@@ -56,3 +53,7 @@ keepX old new = record { x = old .x; n = new .n; z = new .z; v = new .v; c = new
 -- the row of the logic operations: N and Z of the result, V and C cleared, X kept
 unfoldable pub logicFlags : (n r : ℕ) → Flags → Flags
 logicFlags n r f = record { x = f .x; n = top n r; z = eqb (low n r) 0; v = false; c = false }
+
+-- the condition LT of the Manual's conditional tests, of the flags N and V
+abbrev pub isLT : (n v : Bool) → Bool
+isLT n v = n && not v || not n && v

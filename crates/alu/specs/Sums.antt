@@ -1,4 +1,5 @@
--- Document 01, "Proved sums", as one table: an operation for any incoming flags, and what document 01 says of its answer.
+-- Document 01, "Proved sums", as one table: an operation for any incoming flags, and what document 01 says of its answer. Sums 1 to 5; the
+-- others join with their operations.
 -- `proofs/Sums.antt` has the one statement, that every row holds. Assumes nothing.
 use Prim.Native.Nat.{ℕ}
 use mathlib.Core.Bool.{Bool, true, false, not, _&&_, Bool·beq}
@@ -27,7 +28,7 @@ withX f = record { x = true; n = f .n; z = f .z; v = f .v; c = f .c }
 
 unfoldable pub table : List Row
 table =
-    --                                                    X     N     Z     V     C
+    -- operation (source, then destination), result, then X N Z V C
     gives (addOf Byte 0x01 0x7f) 0x80 clear set clear set clear ∷  -- 1
     gives (addOf Byte 0x01 0xff) 0x00 set clear set clear set ∷  -- 2
     gives (λ f. addxOf Long 0 0xffff_ffff (withX f)) 0 set any same any set ∷  -- 3

@@ -1,5 +1,5 @@
-// ADD, SUB, CMP and NEG with their X forms, on values and flags: integer_arith.rs of the crate m68k,
-// in its order. An operand may have bits above its size; they do not count.
+// ADD, ADDX, SUB, SUBX, CMP, NEG and NEGX, on values and flags: integer_arith.rs of the crate m68k, in
+// its order. An operand may have bits above its size; they do not count.
 ghost use mathlib.Core.Path.{_≡_};
 ghost use Rattle.alu.specs.Bits.{bitsOf, top};
 ghost use Rattle.alu.specs.ConditionCodes.{arithFlags, addFlags, subFlags, logicFlags, keepZ, keepX};
@@ -119,8 +119,8 @@ pub fn exec_negx(size: Size, dst: u32, flags: Flags) -> Answer
     accepted(result, new, figure(size, 4, 6))
 }
 
-// The flags after `result` = `dst` + `src`. V: both operands have the one sign and the result the
-// other. C: both top bits are set, or one is and the result's is not.
+// The flags after `result` = `dst` + `src`, with or without X. V: both operands have the one sign and
+// the result the other. C: both top bits are set, or one is and the result's is not.
 pub fn set_add_flags(size: Size, src: u32, dst: u32, result: u32) -> Flags
     ensures { λ r. ⌜ r ≡ addFlags (bitsOf size) src dst result ⌝ }
 {
@@ -129,7 +129,8 @@ pub fn set_add_flags(size: Size, src: u32, dst: u32, result: u32) -> Flags
     arith_flags(size, result, overflow, carry)
 }
 
-// The flags after `result` = `dst` - `src`, which is the addition `src` + `result` = `dst`.
+// The flags after `result` = `dst` - `src`, with or without X. It is the addition `src` + `result` =
+// `dst`, so V and C are as above with `result` and `dst` exchanged.
 pub fn set_sub_flags(size: Size, src: u32, dst: u32, result: u32) -> Flags
     ensures { λ r. ⌜ r ≡ subFlags (bitsOf size) src dst result ⌝ }
 {

@@ -1,4 +1,5 @@
-// Sizes, flags and answers, and the few helpers that look at a size.
+// Sizes, flags, verdicts and answers, and the helpers that look at a size. In a contract `top`, `digit`,
+// `accepted`, `refused` and `figure` are the definitions of specs/, not the functions here.
 ghost use mathlib.Core.Path.{_≡_};
 ghost use Rattle.alu.specs.Bits.{bitsOf, low, top, digit};
 ghost use Rattle.alu.specs.Answers.{numberOf, accepted, refused, figure};
@@ -110,7 +111,7 @@ pub fn refused(verdict: Verdict, flags: Flags) -> Answer
     }
 }
 
-// A clock figure that the long form has for itself.
+// A clock figure: `short` for byte and word, `long` for long.
 pub fn figure(size: Size, short: u32, long: u32) -> u32
     ensures { λ r. ⌜ r ≡ figure size short long ⌝ }
 {

@@ -23,9 +23,10 @@ abbrev pub flagsOf : ℕ → Flags
 flagsOf ccr = record { x = bit 4 ccr; n = bit 3 ccr; z = bit 2 ccr; v = bit 1 ccr; c = bit 0 ccr }
 
 abbrev pub ccrOf : Flags → ℕ
-ccrOf f = digit (f .x) * 16 + digit (f .n) * 8 + digit (f .z) * 4 + digit (f .v) * 2 + digit (f .c) * 1
+ccrOf f = digit (f .x) * 16 + digit (f .n) * 8 + digit (f .z) * 4 + digit (f .v) * 2 + digit (f .c)
 
--- the answer: the result in bits 0 to 31, the flags from bit 32, the clock figure from bit 40, the refusal number from bit 48
+-- the answer: the result in bits 0 to 31, the flags from bit 32, the low 8 bits of the clock figure from bit 40 (every figure of document 01 is
+-- below 256), the refusal number from bit 48
 abbrev pub packed : Answer → ℕ
 packed a = a .result + ccrOf (a .flags) * 2 ^ 32 + a .clocks % 256 * 2 ^ 40 + numberOf (a .verdict) * 2 ^ 48
 

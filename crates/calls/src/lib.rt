@@ -16,9 +16,10 @@ use alu::types::Answer;
 use alu::types::Flags;
 use alu::types::Size;
 use alu::types::Verdict;
+use alu::types::number;
 use alu::types::refused;
 
-// The size of a number. One `match` with a default of its own: the compiler then sees that a size
+// A size by its number, if it names one. One `match` with a default of its own: the compiler then sees that a size
 // and its number are the same.
 enum Found {
     Is(Size),
@@ -44,7 +45,7 @@ fn flags_of(ccr: u8) -> Flags
         n: ccr / 8 % 2 == 1,
         z: ccr / 4 % 2 == 1,
         v: ccr / 2 % 2 == 1,
-        c: ccr / 1 % 2 == 1,
+        c: ccr % 2 == 1,
     }
 }
 
@@ -63,11 +64,7 @@ fn ccr_of(f: Flags) -> u64
 fn number_of(verdict: Verdict) -> u64
     ensures { λ r. ⌜ (r ≡ numberOf verdict) × (r ≤ 2) ⌝ }
 {
-    match verdict {
-        Verdict::Accepted => 0,
-        Verdict::BadCount => 1,
-        Verdict::NoSuchSize => 2,
-    }
+    number(verdict) as u64
 }
 
 fn pack(a: Answer) -> u64
@@ -102,11 +99,11 @@ fn answer(op: u8, size: Size, src: u32, dst: u32, flags: Flags) -> Answer
 pub extern "C" fn alu_call(op: u8, size: u8, src: u32, dst: u32, ccr: u8) -> u64
     ensures { λ r. ⌜ r ≡ callOf op size src dst ccr ⌝ }
 {
-    let f = flags_of(ccr);
-    let Found::Is(z) = size_of(size) else {
-        let none = refused(Verdict::NoSuchSize, f);
+    let flags = flags_of(ccr);
+    let Found::Is(sized) = size_of(size) else {
+        let none = refused(Verdict::NoSuchSize, flags);
         return pack(none);
     };
-    let a = answer(op, z, src, dst, f);
-    pack(a)
+    let done = answer(op, sized, src, dst, flags);
+    pack(done)
 }

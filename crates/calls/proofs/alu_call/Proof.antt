@@ -19,7 +19,7 @@ returns-2 c =
     let at-z = c .before .before .before in
     let at-size = at-z .before .before in
     let a = at-size .before .before .args in
-    called (λ z f. askedOf (a .op) z (a .src) (a .dst) f) (at-z .z .given .1) (at-size .size-of .ensures) (at-size .before .flags-of .ensures)
+    called (λ z f. askedOf (a .op) z (a .src) (a .dst) f) (at-z .sized .given .1) (at-size .size-of .ensures) (at-size .before .flags-of .ensures)
     (c .before .answer .ensures) (c .pack2 .ensures)
 
 pub alu-call-spec : {M : Type 1} → statement M
