@@ -17,7 +17,10 @@ command -v rt >/dev/null || {
 name=$1
 machine=$(uname -m)
 out=$(pwd)/target/native
-rt staticlib "$name"
+said=$(rt staticlib "$name" 2>&1) || {
+    printf '%s\n' "$said" >&2
+    exit 1
+}
 mkdir -p "$out"
 if [ "$machine" = x86_64 ]; then
     cp "target/staticlib/lib$name.a" "$out/"
