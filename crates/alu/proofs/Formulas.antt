@@ -29,19 +29,24 @@ beq-same false true t = absurd t
 beq-same false false t = refl
 
 -- two formulas are equal if they agree at all eight settings
+agreeing : (f g : Bool → Bool → Bool → Bool) (s d r : Bool) → Bool
+agreeing f g s d r = Bool·beq (f s d r) (g s d r)
+
 agree :
-    (f g : Bool → Bool → Bool → Bool) → T (atBoth (λ s. atBoth (λ d. atBoth (λ r. Bool·beq (f s d r) (g s d r))))) →
-    (s d r : Bool) → f s d r ≡ g s d r
+    (f g : Bool → Bool → Bool → Bool) → T (atBoth (λ s. atBoth (λ d. atBoth (λ r. agreeing f g s d r)))) → (s d r : Bool) → f s d r ≡ g s d r
+unfolding agreeing
 agree f g passed s d r =
-    beq-same (f s d r) (g s d r) (at (λ z. Bool·beq (f s d z) (g s d z)) (at (λ y. atBoth (λ z. Bool·beq (f s y z) (g s y z))) (at (λ x. atBoth (λ y. atBoth (λ z. Bool·beq (f x y z) (g x y z)))) passed s) d) r)
+    let at-s = at (λ x. atBoth (λ y. atBoth (λ z. agreeing f g x y z))) passed s in
+    let at-d = at (λ y. atBoth (λ z. agreeing f g s y z)) at-s d in
+    beq-same (f s d r) (g s d r) (at (λ z. agreeing f g s d z) at-d r)
 
 -- the source's words of overflow and carry
 addV-short : (s d r : Bool) → (xor s r && xor d r) ≡ addV s d r
-unfolding xor atBoth
+unfolding xor atBoth agreeing
 addV-short = agree (λ s d r. xor s r && xor d r) addV tt
 
 addC-short : (s d r : Bool) → (s && d || not r && (s || d)) ≡ addC s d r
-unfolding atBoth
+unfolding atBoth agreeing
 addC-short = agree (λ s d r. s && d || not r && (s || d)) addC tt
 
 pub overflow-word : (n s d r : ℕ) → top n (bitAnd (bitXor s r) (bitXor d r)) ≡ addV (top n s) (top n d) (top n r)
@@ -58,18 +63,18 @@ carry-word size s d {r} r-low =
 
 -- d - s = r is s + r = d: the formulas of SUB are those of ADD with the result and the destination exchanged
 pub swapV : (s d r : Bool) → addV s r d ≡ subV s d r
-unfolding atBoth
+unfolding atBoth agreeing
 swapV = agree (λ s d r. addV s r d) subV tt
 
 pub swapC : (s d r : Bool) → addC s r d ≡ subC s d r
-unfolding atBoth
+unfolding atBoth agreeing
 swapC = agree (λ s d r. addC s r d) subC tt
 
 -- the formulas of NEG are those of SUB from a destination with no top bit
 pub negV-is : (d r : Bool) → subV d false r ≡ negV d r
-unfolding atBoth
+unfolding atBoth agreeing
 negV-is = agree (λ s d r. subV d false r) (λ s d r. negV d r) tt false
 
 pub negC-is : (d r : Bool) → subC d false r ≡ negC d r
-unfolding atBoth
+unfolding atBoth agreeing
 negC-is = agree (λ s d r. subC d false r) (λ s d r. negC d r) tt false

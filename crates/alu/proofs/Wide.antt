@@ -1,10 +1,11 @@
 -- A sum or difference in two parts, the low n bits and the high m: the second takes the first's C as its X.
---     wide-add, wide-sub               the two results, joined, are the result in n + m bits, and the second's flags, with Z kept as the X forms keep it, are
---                                      its flags; so a chain of ADD, ADDX, .. is one wide addition, by induction on its length
---     add-addx, sub-subx, neg-negx     the same of the operations ADD then ADDX, SUB then SUBX, NEG then NEGX
+--     wide-add, wide-sub                 the two results, joined, are the result in n + m bits, and the second's flags, with Z kept as the X forms
+--                                        keep it, are its flags; so a chain of ADD, ADDX, .. is one wide addition, by induction on its length
+--     add-addx, sub-subx, neg-negx       the same of the operations ADD then ADDX, SUB then SUBX, NEG then NEGX
+--     add-addx-exact, sub-subx-exact     no carry is dropped: the joined result and X are the whole sum, the whole difference
 -- Assumes nothing.
 use mathlib.Core.Path.{_≡_, _∙_, ap, sym, refl}
-use mathlib.Core.Bool.{Bool, true, false, _&&_, and-comm}
+use mathlib.Core.Bool.{Bool, true, false, _&&_, and-comm, and-assoc}
 use Prim.Native.Nat.{ℕ, _+_, _-_, _*_, _/_, _%_, _^_, _≤_, _<_}
 use native.Mathlib.Nat.{add-comm, mul-comm, mul-le-mul-right, mod-eq-of-lt}
 use native.Mathlib.Omega.{arith}
@@ -66,6 +67,10 @@ wide-difference-digits N M s₀ s₁ d₀ d₁ x c₀ false r₀ r₁ r₀<N r�
     let whole : M * N + (d₁ * N + d₀) - (s₁ * N + s₀ + x) ≡ 1 * (M * N) + (r₁ * N + r₀) = omega (arith, ap (λ (k : ℕ). k * N) e₁) in
     rw whole (digits-mod 1 (digits-lt r₁<M r₀<N))
 
+-- Z kept twice is kept once
+pub keepZ-assoc : (f g h : Flags) → keepZ (keepZ f g) h ≡ keepZ f (keepZ g h)
+keepZ-assoc f g h = rw (and-assoc (f .z) (g .z) (h .z))
+
 module _ (n m : ℕ) (n-pos : 0 < n) (m-pos : 0 < m) (s₀ s₁ d₀ d₁ : ℕ) (s-low : s₀ < 2 ^ n) (d-low : d₀ < 2 ^ n) (x : Bool) where
   whole : 2 ^ (n + m) ≡ 2 ^ m * 2 ^ n
   whole = pow-add 2 n m ∙ mul-comm (2 ^ n) (2 ^ m)
@@ -112,7 +117,7 @@ module _ (n m : ℕ) (n-pos : 0 < n) (m-pos : 0 < m) (s₀ s₁ d₀ d₁ : ℕ)
     unfolding subFlags
     wide-sub-flags = rw (join-top n m m-pos s-low s₁, join-top n m m-pos d-low d₁, join-top n m m-pos r-low r₁, r-zero, and-comm (eqb (low m r₁) 0))
 
-  -- x goes into the low part: false for ADD, X for an ADDX whose Z comes in set. ADDX does the high part.
+  -- x goes into the low part: false for ADD, X for ADDX. ADDX does the high part. A Z that came into the low part is kept by `keepZ-assoc`.
   pub wide-add :
       let s = join n s₀ s₁ in
       let d = join n d₀ d₁ in
@@ -161,6 +166,38 @@ module _ (first second : Size) (s₀ s₁ d₀ d₁ : ℕ) (f : Flags) (s-low : 
       let b = subxOf second s₁ d₁ (a .flags) in
       (join n (a .result) (b .result) ≡ difference (n + m) s d false) × (b .flags ≡ subFlags (n + m) s d (difference (n + m) s d false))
   sub-subx = wide-sub (bitsOf first) (bitsOf second) (bits-pos first) (bits-pos second) s₀ s₁ d₀ d₁ s-low d-low false
+
+  pub add-addx-exact :
+      let n = bitsOf first in
+      let m = bitsOf second in
+      let s = join n s₀ s₁ in
+      let d = join n d₀ d₁ in
+      let a = addOf first s₀ d₀ f in
+      let b = addxOf second s₁ d₁ (a .flags) in
+      low (n + m) d + low (n + m) s ≡ join n (a .result) (b .result) + digit (b .flags .x) * 2 ^ (n + m)
+  unfolding addFlags
+  add-addx-exact =
+      let n = bitsOf first in
+      let m = bitsOf second in
+      let x-is = ap (λ (g : Flags). digit (g .x)) (add-addx .1) in
+      rw (add-addx .0, x-is)
+      (omega (arith, add-exact (n + m) (omega (arith, bits-pos first)) (join n s₀ s₁) (join n d₀ d₁) false))
+
+  pub sub-subx-exact :
+      let n = bitsOf first in
+      let m = bitsOf second in
+      let s = join n s₀ s₁ in
+      let d = join n d₀ d₁ in
+      let a = subOf first s₀ d₀ f in
+      let b = subxOf second s₁ d₁ (a .flags) in
+      low (n + m) s + join n (a .result) (b .result) ≡ low (n + m) d + digit (b .flags .x) * 2 ^ (n + m)
+  unfolding subFlags
+  sub-subx-exact =
+      let n = bitsOf first in
+      let m = bitsOf second in
+      let x-is = ap (λ (g : Flags). digit (g .x)) (sub-subx .1) in
+      rw (sub-subx .0, x-is)
+      (omega (arith, sub-exact (n + m) (omega (arith, bits-pos first)) (join n s₀ s₁) (join n d₀ d₁) false))
 
 pub neg-negx :
     (first second : Size) (d₀ d₁ : ℕ) (f : Flags) → d₀ < 2 ^ bitsOf first →
