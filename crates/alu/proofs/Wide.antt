@@ -17,7 +17,7 @@ use lib.Pow.{pow-pos, pow-add, high, shr-shr, mod-pow-add}
 use Rattle.alu.specs.declared.types.Size.{Size}
 use Rattle.alu.specs.declared.types.Flags.{Flags}
 use Rattle.alu.specs.Bits.{bitsOf, low, top, digit, join}
-use Rattle.alu.specs.ConditionCodes.{addFlags, subFlags, negFlags, keepZ}
+use Rattle.alu.specs.ConditionCodes.{addV, addC, subV, subC, arithFlags, addFlags, subFlags, negFlags, keepZ}
 use Rattle.alu.specs.Arith.{sum, difference, addOf, addxOf, subOf, subxOf, negOf, negxOf}
 use Rattle.alu.proofs.Bounds.{bits-pos}
 use Rattle.alu.proofs.Laws.{sum-lt, difference-lt, add-exact, sub-exact, neg-flags}
@@ -107,15 +107,13 @@ module _ (n m : ℕ) (n-pos : 0 < n) (m-pos : 0 < m) (s₀ s₁ d₀ d₁ : ℕ)
     r-zero : eqb (low (n + m) (join n r₀ r₁)) 0 ≡ (eqb (low m r₁) 0 && eqb (low n r₀) 0)
     r-zero = rw (join-low n m r-low r₁, mod-eq-of-lt r-low) (join-zero n r₀ (low m r₁))
 
-    wide-add-flags :
-        addFlags (n + m) (join n s₀ s₁) (join n d₀ d₁) (join n r₀ r₁) ≡ keepZ (addFlags n s₀ d₀ r₀) (addFlags m s₁ d₁ r₁)
-    unfolding addFlags
-    wide-add-flags = rw (join-top n m m-pos s-low s₁, join-top n m m-pos d-low d₁, join-top n m m-pos r-low r₁, r-zero, and-comm (eqb (low m r₁) 0))
-
-    wide-sub-flags :
-        subFlags (n + m) (join n s₀ s₁) (join n d₀ d₁) (join n r₀ r₁) ≡ keepZ (subFlags n s₀ d₀ r₀) (subFlags m s₁ d₁ r₁)
-    unfolding subFlags
-    wide-sub-flags = rw (join-top n m m-pos s-low s₁, join-top n m m-pos d-low d₁, join-top n m m-pos r-low r₁, r-zero, and-comm (eqb (low m r₁) 0))
+    -- for any formulas of V and C on the three top bits
+    wide-flags :
+        (over carry : Bool → Bool → Bool → Bool) →
+        let flags : (k s d r : ℕ) → Flags = λ k s d r. arithFlags k r (over (top k s) (top k d) (top k r)) (carry (top k s) (top k d) (top k r)) in
+        flags (n + m) (join n s₀ s₁) (join n d₀ d₁) (join n r₀ r₁) ≡ keepZ (flags n s₀ d₀ r₀) (flags m s₁ d₁ r₁)
+    wide-flags over carry =
+        rw (join-top n m m-pos s-low s₁, join-top n m m-pos d-low d₁, join-top n m m-pos r-low r₁, r-zero, and-comm (eqb (low m r₁) 0))
 
   -- x goes into the low part: false for ADD, X for ADDX. ADDX does the high part. A Z that came into the low part is kept by `keepZ-assoc`.
   pub wide-add :
@@ -129,7 +127,7 @@ module _ (n m : ℕ) (n-pos : 0 < n) (m-pos : 0 < m) (s₀ s₁ d₀ d₁ : ℕ)
   wide-add =
       let r₀ = sum n s₀ d₀ x in
       let r₁ = sum m s₁ d₁ (addFlags n s₀ d₀ r₀ .c) in
-      (sym wide-sum, sym (wide-add-flags r₀ r₁ (sum-lt n s₀ d₀ x)) ∙ ap (addFlags (n + m) (join n s₀ s₁) (join n d₀ d₁)) (sym wide-sum))
+      (sym wide-sum, sym (wide-flags r₀ r₁ (sum-lt n s₀ d₀ x) addV addC) ∙ ap (addFlags (n + m) (join n s₀ s₁) (join n d₀ d₁)) (sym wide-sum))
 
   -- The same of SUB, SUBX.
   pub wide-sub :
@@ -143,7 +141,7 @@ module _ (n m : ℕ) (n-pos : 0 < n) (m-pos : 0 < m) (s₀ s₁ d₀ d₁ : ℕ)
   wide-sub =
       let r₀ = difference n s₀ d₀ x in
       let r₁ = difference m s₁ d₁ (subFlags n s₀ d₀ r₀ .c) in
-      (sym wide-difference, sym (wide-sub-flags r₀ r₁ (difference-lt n s₀ d₀ x)) ∙ ap (subFlags (n + m) (join n s₀ s₁) (join n d₀ d₁)) (sym wide-difference))
+      (sym wide-difference, sym (wide-flags r₀ r₁ (difference-lt n s₀ d₀ x) subV subC) ∙ ap (subFlags (n + m) (join n s₀ s₁) (join n d₀ d₁)) (sym wide-difference))
 
 -- The operations at any two sizes. The low operands have no bits above the first size.
 module _ (first second : Size) (s₀ s₁ d₀ d₁ : ℕ) (f : Flags) (s-low : s₀ < 2 ^ bitsOf first) (d-low : d₀ < 2 ^ bitsOf first) where
