@@ -5,7 +5,7 @@ use crate::packed::{Answer, Request};
 use crate::packed::{OPS, Op, Op::*};
 
 /// The operations that the port has. Comparisons, vectors and speed follow this list.
-pub const PORTED: [Op; 7] = [Add, Sub, Cmp, Addx, Subx, Neg, Negx];
+pub const PORTED: [Op; 15] = [Add, Sub, Cmp, Addx, Subx, Neg, Negx, Asl, Asr, Lsl, Lsr, Rol, Ror, Roxl, Roxr];
 
 #[cfg(feature = "port")]
 unsafe extern "C" {

@@ -11,7 +11,7 @@ use Rattle.alu.specs.declared.types.Size.the-variants.{Byte, Word, Long}
 use Rattle.alu.specs.declared.types.Verdict.{Verdict}
 use Rattle.alu.specs.declared.types.Verdict.the-variants.{Accepted, BadCount, NoSuchSize}
 use Rattle.alu.specs.Bits.{bitsOf, low, digit}
-use Rattle.alu.specs.Answers.{numberOf}
+use Rattle.alu.specs.Answers.{numberOf, figure}
 
 -- a size has from 1 to 32 bits
 pub bits-pos : (size : Size) → 0 < bitsOf size
@@ -36,3 +36,9 @@ digit-le false = lit≤ tt
 
 pub low-lt : (n x : ℕ) → low n x < 2 ^ n
 low-lt n x = mod-lt x (pow-pos n)
+
+-- a clock figure is no more than the greater of its two numbers
+pub figure-le : (size : Size) (short long most : ℕ) → short ≤ most → long ≤ most → figure size short long ≤ most
+figure-le Byte short long most s l = s
+figure-le Word short long most s l = s
+figure-le Long short long most s l = l

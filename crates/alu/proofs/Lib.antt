@@ -6,4 +6,7 @@ mod Whole
 pub mod Laws
 pub mod Integers
 pub mod Wide
+pub mod Turns
+pub mod Rings
+mod Overflow
 pub mod Sums

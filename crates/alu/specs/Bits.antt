@@ -22,6 +22,10 @@ low n x = x % 2 ^ n
 abbrev pub bit : (k x : ℕ) → Bool
 bit k x = eqb (x / 2 ^ k % 2) 1
 
+-- the lowest bit
+abbrev pub lowest : ℕ → Bool
+lowest x = eqb (x % 2) 1
+
 -- the highest of n bits: the Manual's Sm, Dm, Rm
 unfoldable pub top : (n x : ℕ) → Bool
 top n x = bit (n - 1) x

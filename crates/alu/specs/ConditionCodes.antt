@@ -28,9 +28,13 @@ negV d r = d && r
 abbrev pub negC : (d r : Bool) → Bool
 negC d r = d || r
 
--- N = Rm, Z = no bit of the result is set, V and C as given, X = C
+-- N = Rm, Z = no bit of the result is set; X, V and C as given
+abbrev pub resultFlags : (n r : ℕ) (x v c : Bool) → Flags
+resultFlags n r x v c = record { x = x; n = top n r; z = eqb (low n r) 0; v = v; c = c }
+
+-- the arithmetic rows: X = C
 abbrev pub arithFlags : (n r : ℕ) (v c : Bool) → Flags
-arithFlags n r v c = record { x = c; n = top n r; z = eqb (low n r) 0; v = v; c = c }
+arithFlags n r v c = resultFlags n r c v c
 
 -- the row of ADD, of SUB and of NEG, in n bits
 unfoldable pub addFlags : (n s d r : ℕ) → Flags
@@ -52,7 +56,7 @@ keepX old new = record { x = old .x; n = new .n; z = new .z; v = new .v; c = new
 
 -- the row of the logic operations: N and Z of the result, V and C cleared, X kept
 unfoldable pub logicFlags : (n r : ℕ) → Flags → Flags
-logicFlags n r f = record { x = f .x; n = top n r; z = eqb (low n r) 0; v = false; c = false }
+logicFlags n r f = resultFlags n r (f .x) false false
 
 -- the condition LT of the Manual's conditional tests, of the flags N and V
 abbrev pub isLT : (n v : Bool) → Bool

@@ -2,4 +2,6 @@ pub mod Bits
 pub mod ConditionCodes
 pub mod Answers
 pub mod Arith
+pub mod Shifts
 pub mod Sums
+pub mod Places

@@ -11,6 +11,7 @@ use super::types::accepted;
 use super::types::digit;
 use super::types::figure;
 use super::types::masked;
+use super::types::result_flags;
 use super::types::top;
 
 // dst + src + x in the size's bits. 64 bits hold the whole sum; it is masked once, at the end.
@@ -33,14 +34,9 @@ fn subtract(size: Size, src: u32, dst: u32, x: bool) -> u32
 fn arith_flags(size: Size, result: u32, overflow: u32, carry: u32) -> Flags
     ensures { λ r. ⌜ r ≡ arithFlags (bitsOf size) result (top (bitsOf size) overflow) (top (bitsOf size) carry) ⌝ }
 {
+    let v = top(size, overflow);
     let c = top(size, carry);
-    Flags {
-        x: c,
-        n: top(size, result),
-        z: masked(size, result as u64) == 0,
-        v: top(size, overflow),
-        c: c,
-    }
+    result_flags(size, result, c, v, c)
 }
 
 // The X forms clear Z for a nonzero result and otherwise keep it.
@@ -157,11 +153,5 @@ pub fn set_cmp_flags(size: Size, src: u32, dst: u32, result: u32, flags: Flags) 
 pub fn set_logic_flags(size: Size, result: u32, flags: Flags) -> Flags
     ensures { λ r. ⌜ r ≡ logicFlags (bitsOf size) result flags ⌝ }
 {
-    Flags {
-        x: flags.x,
-        n: top(size, result),
-        z: masked(size, result as u64) == 0,
-        v: false,
-        c: false,
-    }
+    result_flags(size, result, flags.x, false, false)
 }

@@ -2,6 +2,7 @@
 // `accepted`, `refused` and `figure` are the definitions of specs/, not the functions here.
 ghost use mathlib.Core.Path.{_≡_};
 ghost use Rattle.alu.specs.Bits.{bitsOf, low, top, digit};
+ghost use Rattle.alu.specs.ConditionCodes.{resultFlags};
 ghost use Rattle.alu.specs.Answers.{numberOf, accepted, refused, figure};
 
 pub enum Size {
@@ -72,6 +73,19 @@ pub fn digit(flag: bool) -> u32
     ensures { λ r. ⌜ r ≡ digit flag ⌝ }
 {
     if flag { 1 } else { 0 }
+}
+
+// N and Z of the result; X, V and C as given.
+pub fn result_flags(size: Size, result: u32, x: bool, v: bool, c: bool) -> Flags
+    ensures { λ r. ⌜ r ≡ resultFlags (bitsOf size) result x v c ⌝ }
+{
+    Flags {
+        x: x,
+        n: top(size, result),
+        z: masked(size, result as u64) == 0,
+        v: v,
+        c: c,
+    }
 }
 
 // An accepted answer. Here and in `refused` the flags go over one by one: a `Flags` that is moved

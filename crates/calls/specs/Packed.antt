@@ -12,7 +12,9 @@ use Rattle.calls.specs.declared.Found.{Found}
 use Rattle.calls.specs.declared.Found.the-variants.{Is, NoSize}
 use Rattle.alu.specs.Bits.{bit, digit}
 use Rattle.alu.specs.Answers.{numberOf, refused}
+use Rattle.alu.specs.declared.shift_rotate.ShiftOp.the-variants.{Asl, Asr, Lsl, Lsr, Rol, Ror, Roxl, Roxr}
 use Rattle.alu.specs.Arith.{addOf, addxOf, subOf, subxOf, cmpOf, negOf, negxOf}
+use Rattle.alu.specs.Shifts.{shiftOf}
 
 -- the sizes by number: 0 byte, 1 word, 2 long; a greater number names none
 abbrev pub sizeOf : ℕ → Found
@@ -40,7 +42,15 @@ answerOf op size s d f =
     (cond (eqb op 0x04) (subxOf size s d f)
     (cond (eqb op 0x0d) (negOf size d f)
     (cond (eqb op 0x0e) (negxOf size d f)
-    (refused NoSuchSize f)))))))
+    (cond (eqb op 0x11) (shiftOf Asl size s d f)
+    (cond (eqb op 0x12) (shiftOf Asr size s d f)
+    (cond (eqb op 0x13) (shiftOf Lsl size s d f)
+    (cond (eqb op 0x14) (shiftOf Lsr size s d f)
+    (cond (eqb op 0x15) (shiftOf Rol size s d f)
+    (cond (eqb op 0x16) (shiftOf Ror size s d f)
+    (cond (eqb op 0x17) (shiftOf Roxl size s d f)
+    (cond (eqb op 0x18) (shiftOf Roxr size s d f)
+    (refused NoSuchSize f)))))))))))))))
 
 -- the same where the size may be none: refused too
 abbrev pub askedOf : (op : ℕ) → Found → (s d : ℕ) → Flags → Answer

@@ -12,6 +12,14 @@ use alu::integer_arith::exec_neg;
 use alu::integer_arith::exec_negx;
 use alu::integer_arith::exec_sub;
 use alu::integer_arith::exec_subx;
+use alu::shift_rotate::exec_asl;
+use alu::shift_rotate::exec_asr;
+use alu::shift_rotate::exec_lsl;
+use alu::shift_rotate::exec_lsr;
+use alu::shift_rotate::exec_rol;
+use alu::shift_rotate::exec_ror;
+use alu::shift_rotate::exec_roxl;
+use alu::shift_rotate::exec_roxr;
 use alu::types::Answer;
 use alu::types::Flags;
 use alu::types::Size;
@@ -79,18 +87,26 @@ fn pack(a: Answer) -> u64
 }
 
 // The operation of that number.
-fn answer(op: u8, size: Size, src: u32, dst: u32, flags: Flags) -> Answer
-    ensures { λ r. ⌜ r ≡ answerOf op size src dst flags ⌝ }
+fn answer(op: u8, size: Size, src: u32, dst: u32, flags: Flags) -> u64
+    ensures { λ r. ⌜ r ≡ packed (answerOf op size src dst flags) ⌝ }
 {
     match op {
-        0x00 => exec_add(size, src, dst, flags),
-        0x01 => exec_sub(size, src, dst, flags),
-        0x02 => exec_cmp(size, src, dst, flags),
-        0x03 => exec_addx(size, src, dst, flags),
-        0x04 => exec_subx(size, src, dst, flags),
-        0x0d => exec_neg(size, dst, flags),
-        0x0e => exec_negx(size, dst, flags),
-        _ => refused(Verdict::NoSuchSize, flags),
+        0x00 => pack(exec_add(size, src, dst, flags)),
+        0x01 => pack(exec_sub(size, src, dst, flags)),
+        0x02 => pack(exec_cmp(size, src, dst, flags)),
+        0x03 => pack(exec_addx(size, src, dst, flags)),
+        0x04 => pack(exec_subx(size, src, dst, flags)),
+        0x0d => pack(exec_neg(size, dst, flags)),
+        0x0e => pack(exec_negx(size, dst, flags)),
+        0x11 => pack(exec_asl(size, src, dst, flags)),
+        0x12 => pack(exec_asr(size, src, dst, flags)),
+        0x13 => pack(exec_lsl(size, src, dst, flags)),
+        0x14 => pack(exec_lsr(size, src, dst, flags)),
+        0x15 => pack(exec_rol(size, src, dst, flags)),
+        0x16 => pack(exec_ror(size, src, dst, flags)),
+        0x17 => pack(exec_roxl(size, src, dst, flags)),
+        0x18 => pack(exec_roxr(size, src, dst, flags)),
+        _ => pack(refused(Verdict::NoSuchSize, flags)),
     }
 }
 
@@ -104,6 +120,5 @@ pub extern "C" fn alu_call(op: u8, size: u8, src: u32, dst: u32, ccr: u8) -> u64
         let none = refused(Verdict::NoSuchSize, flags);
         return pack(none);
     };
-    let done = answer(op, sized, src, dst, flags);
-    pack(done)
+    answer(op, sized, src, dst, flags)
 }

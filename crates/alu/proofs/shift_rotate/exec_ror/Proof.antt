@@ -1,0 +1,23 @@
+-- `exec_ror` meets its contract: the top bit of the ring is the last one out.
+-- Assumes nothing.
+use mathlib.Core.Path.{_∙_}
+use Prim.Native.Nat.{_%_}
+use Rattle.alu.specs.Bits.{bitsOf}
+use Rattle.alu.specs.Shifts.{shiftOf, start}
+use Rattle.alu.proofs.Bounds.{bits-pos, low-lt}
+use Rattle.alu.proofs.Rings.{ror-turns, rotated-answer}
+use borrow.Author.Needs.{needs}
+use Rattle.alu.proofs.shift_rotate.exec_ror.Statement.{statement}
+use Rattle.alu.proofs.shift_rotate.exec_ror.Tie as tie
+
+returns : tie.Need-returns
+unfolding shiftOf
+returns c =
+    let a = c .before .before .before .args in
+    let n = bitsOf (a .size) in
+    let shown = ror-turns n (start n (a .value) (a .flags .x)) (bits-pos (a .size)) (low-lt n (a .value)) (a .shift % 64) in
+    rw (c .before .top .ensures, c .before .before .ror .ensures) at (c .answer .ensures) ∙
+    rotated-answer (a .size) (a .shift % 64) (a .flags .x) shown
+
+pub exec-ror-spec : {M : Type 1} → statement M
+exec-ror-spec = tie.close (tie.spec (search needs) (search needs) (search needs) returns)
