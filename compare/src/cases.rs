@@ -12,9 +12,9 @@ pub const BOUNDARIES: [u32; 44] = [
     0xDEAD_BE80,
 ];
 
-/// Counts: every one to 71, and some whose upper bits matter.
+/// Counts: every one to 79, and some whose upper bits matter.
 fn counts() -> Vec<u32> {
-    (0..72).chain([127, 128, 129, 255, 256, 4096, 0x8000_0000, 0xFFFF_FFC0, 0xFFFF_FFFF]).collect()
+    (0..80).chain([127, 128, 129, 255, 256, 4096, 0x8000_0000, 0xFFFF_FFC0, 0xFFFF_FFFF]).collect()
 }
 
 /// The generator splitmix64.

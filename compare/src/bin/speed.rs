@@ -1,7 +1,8 @@
 //! Nanoseconds a call: the crate's operation and the port's, from the same loop over the same operands.
 //! Each answer's flags go into the next call, as in a run of instructions.
 //!
-//!   speed [OP..]   none named: all of the port's
+//!   speed [OP..]   none named: all of the port's. With the feature `fixed` the crate's operation is
+//!                  chosen at compile time.
 
 use compare::cases::Random;
 use compare::oracle::Oracle;
@@ -14,30 +15,51 @@ use std::time::Instant;
 const OPERANDS: usize = 4096;
 const ROUNDS: usize = 2000;
 
-/// The crate behind a call that isn't inlined, as the port's is, with the port's five numbers. Its
-/// operation is chosen at compile time and its flags are read by `get_ccr`: of the ways to call the crate
-/// that were measured, the fastest. The port chooses by `op`.
-#[inline(never)]
-fn called<const OP: usize>(oracle: &mut Oracle, _op: u8, size: u8, src: u32, dst: u32, ccr: u8) -> Answer {
-    let size = match size {
+type CrateCall = fn(&mut Oracle, u8, u8, u32, u32, u8) -> Answer;
+
+fn size_of(number: u8) -> Size {
+    match number {
         0 => Size::Byte,
         1 => Size::Word,
         _ => Size::Long,
-    };
-    oracle.answer(Request { op: OPS[OP], size, src, dst, ccr })
+    }
 }
 
-type CrateCall = fn(&mut Oracle, u8, u8, u32, u32, u8) -> Answer;
-
-macro_rules! calls {
-    ($($number:literal)*) => { [$(called::<$number>),*] };
+/// The crate behind the call that the port has: not inlined, five numbers in, a packed answer out, the
+/// operation chosen by its number.
+#[cfg(not(feature = "fixed"))]
+fn crate_call(_op: u8) -> CrateCall {
+    #[inline(never)]
+    fn called(oracle: &mut Oracle, op: u8, size: u8, src: u32, dst: u32, ccr: u8) -> Answer {
+        oracle.answer(Request { op: OPS[usize::from(op)], size: size_of(size), src, dst, ccr })
+    }
+    called
 }
 
-/// The crate's operations by number.
-#[rustfmt::skip]
-const CALLS: [CrateCall; OPS.len()] = calls!(
-    0 1 2 3 4 5 6 7 8 9 10 11 12 13 14 15 16 17 18 19 20 21 22 23 24 25 26 27 28 29
-);
+/// The same with the operation chosen at compile time: the crate is spared the choice, and each of its
+/// functions is compiled into a call of its own.
+#[cfg(feature = "fixed")]
+fn crate_call(op: u8) -> CrateCall {
+    #[inline(never)]
+    fn called<const OP: usize>(
+        oracle: &mut Oracle,
+        _op: u8,
+        size: u8,
+        src: u32,
+        dst: u32,
+        ccr: u8,
+    ) -> Answer {
+        oracle.answer(Request { op: OPS[OP], size: size_of(size), src, dst, ccr })
+    }
+    macro_rules! calls {
+        ($($number:literal)*) => { [$(called::<$number>),*] };
+    }
+    #[rustfmt::skip]
+    const CALLS: [CrateCall; OPS.len()] = calls!(
+        0 1 2 3 4 5 6 7 8 9 10 11 12 13 14 15 16 17 18 19 20 21 22 23 24 25 26 27 28 29
+    );
+    CALLS[usize::from(op)]
+}
 
 /// One side's best round, the flags that go on, and a digest of all its results and flags.
 struct Side {
@@ -86,7 +108,7 @@ fn measure(op: Op, size: Size) -> Result<(f64, f64), String> {
     let mut oracle = Oracle::default();
     let (mut by_crate, mut by_port) = (Side::new(), Side::new());
     let (number, size) = (black_box(op.number()), black_box(size.number()));
-    let call = black_box(CALLS[usize::from(number)]);
+    let call = black_box(crate_call(number));
     let port_call = black_box(alu_call as extern "C" fn(u8, u8, u32, u32, u8) -> Answer);
     for _ in 0..ROUNDS {
         by_crate.round(&operands, |src, dst, ccr| call(&mut oracle, number, size, src, dst, ccr));

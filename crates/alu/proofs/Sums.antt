@@ -1,11 +1,13 @@
 -- Document 01, "Proved sums": every row of the table holds, whatever the flags before.
 -- Assumes nothing.
+use mathlib.Core.Bool.{xor}
 use lib.Dec.{T}
 use Rattle.alu.specs.Bits.{top}
 use Rattle.alu.specs.ConditionCodes.{addFlags, subFlags, negFlags}
 use Rattle.alu.specs.Arith.{sum, difference}
-use Rattle.alu.specs.Sums.{table, every, holds, holdsAt, atBoth}
+use Rattle.alu.specs.Shifts.{turn, turns, changed, shiftOf}
+use Rattle.alu.specs.Sums.{table, every, holds, holdsAt, answers, atBoth}
 
 pub sums : T (every holds table)
-unfolding table every holds holdsAt atBoth top sum difference addFlags subFlags negFlags
+unfolding table every holds holdsAt answers atBoth top sum difference addFlags subFlags negFlags xor turn turns changed shiftOf
 sums = tt

@@ -1,15 +1,17 @@
--- Document 01, "Proved sums", as one table: an operation for any incoming flags, and what document 01 says of its answer. Sums 1 to 5; the
--- others join with their operations.
+-- Document 01, "Proved sums", as one table: an operation for any incoming flags, and what document 01 says of its answer. Sums 1 to
+-- 10; the others join with their operations.
 -- `proofs/Sums.antt` has the one statement, that every row holds. Assumes nothing.
 use Prim.Native.Nat.{ℕ}
 use mathlib.Core.Bool.{Bool, true, false, not, _&&_, Bool·beq}
 use mathlib.Core.List.{List, [], _∷_}
 use lib.Dec.{eqb}
-use Rattle.alu.specs.declared.types.Size.the-variants.{Byte, Long}
+use Rattle.alu.specs.declared.types.Size.the-variants.{Byte, Word, Long}
 use Rattle.alu.specs.declared.types.Flags.{Flags}
 use Rattle.alu.specs.declared.types.Answer.{Answer}
+use Rattle.alu.specs.declared.shift_rotate.ShiftOp.the-variants.{Asl, Asr, Lsl, Rol, Roxl}
 use Rattle.alu.specs.Answers.{numberOf}
 use Rattle.alu.specs.Arith.{addOf, addxOf, subxOf, negOf}
+use Rattle.alu.specs.Shifts.{shiftOf}
 
 -- what a row says of a flag: set, clear, as it was before the operation, or anything
 pub data Said : Type 0 where
@@ -18,9 +20,10 @@ pub data Said : Type 0 where
   same : Said
   any : Said
 
--- a row: an operation on the flags before; its result; X N Z V C after
+-- a row: an operation on the flags before; its result; X N Z V C after. `givesIn` has the clock figure too
 pub data Row : Type 0 where
-  gives : (Flags → Answer) → ℕ → (x n z v c : Said) → Row
+  gives : (Flags → Answer) → (result : ℕ) → (x n z v c : Said) → Row
+  givesIn : (clocks : ℕ) → (Flags → Answer) → (result : ℕ) → (x n z v c : Said) → Row
 
 -- the flags with X set
 abbrev withX : Flags → Flags
@@ -33,7 +36,15 @@ table =
     gives (addOf Byte 0x01 0xff) 0x00 set clear set clear set ∷  -- 2
     gives (λ f. addxOf Long 0 0xffff_ffff (withX f)) 0 set any same any set ∷  -- 3
     gives (λ f. subxOf Byte 0xff 0x00 (withX f)) 0x00 set any same clear set ∷  -- 4
-    gives (negOf Byte 0x80) 0x80 set set clear set set ∷ []  -- 5
+    gives (negOf Byte 0x80) 0x80 set set clear set set ∷  -- 5
+    -- shifts: count, then value
+    gives (shiftOf Asl Byte 8 0x01) 0x00 set any set set set ∷  -- 6
+    gives (shiftOf Asl Byte 9 0x01) 0x00 clear any set set clear ∷
+    gives (shiftOf Asr Byte 9 0x80) 0xff set set any any set ∷  -- 7
+    gives (shiftOf Lsl Byte 0 0x1234) 0x1234 any clear clear clear clear ∷  -- 8
+    gives (shiftOf Lsl Byte 64 0x1234) 0x1234 any clear clear clear clear ∷
+    givesIn 22 (shiftOf Rol Byte 8 0x81) 0x81 any set any any set ∷  -- 9
+    givesIn 40 (λ f. shiftOf Roxl Word 17 0x8001 (withX f)) 0x8001 set set any any set ∷ []  -- 10
 
 -- `after` is what a row says of a flag that was `before`
 abbrev pub meets : Said → (before after : Bool) → Bool
@@ -42,13 +53,16 @@ meets clear before after = not after
 meets same before after = Bool·beq before after
 meets any before after = true
 
--- an accepted answer with the row's result and flags
-unfoldable pub holdsAt : Row → Flags → Bool
-holdsAt (gives operation result x n z v c) f =
-    let a = operation f in
+-- an accepted answer with that result and those flags
+unfoldable pub answers : Answer → (before : Flags) → (result : ℕ) → (x n z v c : Said) → Bool
+answers a f result x n z v c =
     let g = a .flags in
     eqb (numberOf (a .verdict)) 0 && eqb (a .result) result && meets x (f .x) (g .x) && meets n (f .n) (g .n) && meets z (f .z) (g .z) &&
     meets v (f .v) (g .v) && meets c (f .c) (g .c)
+
+unfoldable pub holdsAt : Row → Flags → Bool
+holdsAt (gives operation result x n z v c) f = answers (operation f) f result x n z v c
+holdsAt (givesIn clocks operation result x n z v c) f = eqb (operation f .clocks) clocks && answers (operation f) f result x n z v c
 
 -- a row holds for each of the 32 settings of the flags before
 unfoldable pub atBoth : (Bool → Bool) → Bool

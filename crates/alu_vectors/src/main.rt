@@ -86,4 +86,12 @@ fn main() {
     replay(b"subx.tsv");
     replay(b"neg.tsv");
     replay(b"negx.tsv");
+    replay(b"asl.tsv");
+    replay(b"asr.tsv");
+    replay(b"lsl.tsv");
+    replay(b"lsr.tsv");
+    replay(b"rol.tsv");
+    replay(b"ror.tsv");
+    replay(b"roxl.tsv");
+    replay(b"roxr.tsv");
 }

@@ -1,13 +1,19 @@
--- What `alu_call` does, over any operation, so that nothing unfolds: the arguments read, the operation done, its answer packed.
+-- What `answer` and `alu_call` do, over any operation, so that nothing unfolds: the arguments read, the operation done, its answer packed.
 -- Assumes nothing.
 use Prim.Native.Nat.{ℕ}
-use mathlib.Core.Path.{_≡_, ap, sym, _∙_}
+use mathlib.Core.Path.{_≡_, ap, _∙_}
 use Rattle.alu.specs.declared.types.Flags.{Flags}
 use Rattle.alu.specs.declared.types.Answer.{Answer}
 use Rattle.calls.specs.declared.Found.{Found}
 use Rattle.calls.specs.Packed.{packed}
 
+-- the operation whose number is `key`
+pub answered :
+    (of : ℕ → Flags → Answer) (op key : ℕ) {r : ℕ} {a : Answer} {flags flags′ : Flags} →
+    op ≡ key → flags ≡ flags′ → a ≡ of key flags → r ≡ packed a → r ≡ packed (of op flags′)
+answered of op key is f done gave = rw is (gave ∙ ap packed (done ∙ ap (of key) f))
+
+-- a size by its number, which may name none
 pub called :
-    (of : Found → Flags → Answer) {r : ℕ} {a : Answer} {size size′ found : Found} {flags flags′ : Flags} →
-    found ≡ size → found ≡ size′ → flags ≡ flags′ → a ≡ of size flags → r ≡ packed a → r ≡ packed (of size′ flags′)
-called of is z f done gave = rw (← z, is, ← f) (gave ∙ ap packed done)
+    (of : Found → Answer) {r : ℕ} {size size′ found : Found} → found ≡ size → found ≡ size′ → r ≡ packed (of size) → r ≡ packed (of size′)
+called of is z gave = rw (← z, is) gave

@@ -86,27 +86,28 @@ fn pack(a: Answer) -> u64
         + number_of(verdict) * 0x1_0000_0000_0000
 }
 
-// The operation of that number.
-fn answer(op: u8, size: Size, src: u32, dst: u32, flags: Flags) -> u64
-    ensures { λ r. ⌜ r ≡ packed (answerOf op size src dst flags) ⌝ }
+// The operation of that number, its answer packed. Each arm unpacks and packs by itself: the compiler then leaves out
+// what an operation does not need.
+fn answer(op: u8, size: Size, src: u32, dst: u32, ccr: u8) -> u64
+    ensures { λ r. ⌜ r ≡ packed (answerOf op size src dst (flagsOf ccr)) ⌝ }
 {
     match op {
-        0x00 => pack(exec_add(size, src, dst, flags)),
-        0x01 => pack(exec_sub(size, src, dst, flags)),
-        0x02 => pack(exec_cmp(size, src, dst, flags)),
-        0x03 => pack(exec_addx(size, src, dst, flags)),
-        0x04 => pack(exec_subx(size, src, dst, flags)),
-        0x0d => pack(exec_neg(size, dst, flags)),
-        0x0e => pack(exec_negx(size, dst, flags)),
-        0x11 => pack(exec_asl(size, src, dst, flags)),
-        0x12 => pack(exec_asr(size, src, dst, flags)),
-        0x13 => pack(exec_lsl(size, src, dst, flags)),
-        0x14 => pack(exec_lsr(size, src, dst, flags)),
-        0x15 => pack(exec_rol(size, src, dst, flags)),
-        0x16 => pack(exec_ror(size, src, dst, flags)),
-        0x17 => pack(exec_roxl(size, src, dst, flags)),
-        0x18 => pack(exec_roxr(size, src, dst, flags)),
-        _ => pack(refused(Verdict::NoSuchSize, flags)),
+        0x00 => pack(exec_add(size, src, dst, flags_of(ccr))),
+        0x01 => pack(exec_sub(size, src, dst, flags_of(ccr))),
+        0x02 => pack(exec_cmp(size, src, dst, flags_of(ccr))),
+        0x03 => pack(exec_addx(size, src, dst, flags_of(ccr))),
+        0x04 => pack(exec_subx(size, src, dst, flags_of(ccr))),
+        0x0d => pack(exec_neg(size, dst, flags_of(ccr))),
+        0x0e => pack(exec_negx(size, dst, flags_of(ccr))),
+        0x11 => pack(exec_asl(size, src, dst, flags_of(ccr))),
+        0x12 => pack(exec_asr(size, src, dst, flags_of(ccr))),
+        0x13 => pack(exec_lsl(size, src, dst, flags_of(ccr))),
+        0x14 => pack(exec_lsr(size, src, dst, flags_of(ccr))),
+        0x15 => pack(exec_rol(size, src, dst, flags_of(ccr))),
+        0x16 => pack(exec_ror(size, src, dst, flags_of(ccr))),
+        0x17 => pack(exec_roxl(size, src, dst, flags_of(ccr))),
+        0x18 => pack(exec_roxr(size, src, dst, flags_of(ccr))),
+        _ => pack(refused(Verdict::NoSuchSize, flags_of(ccr))),
     }
 }
 
@@ -115,10 +116,9 @@ fn answer(op: u8, size: Size, src: u32, dst: u32, flags: Flags) -> u64
 pub extern "C" fn alu_call(op: u8, size: u8, src: u32, dst: u32, ccr: u8) -> u64
     ensures { λ r. ⌜ r ≡ callOf op size src dst ccr ⌝ }
 {
-    let flags = flags_of(ccr);
     let Found::Is(sized) = size_of(size) else {
-        let none = refused(Verdict::NoSuchSize, flags);
+        let none = refused(Verdict::NoSuchSize, flags_of(ccr));
         return pack(none);
     };
-    answer(op, sized, src, dst, flags)
+    answer(op, sized, src, dst, ccr)
 }
