@@ -1,15 +1,15 @@
 -- The top bit of `a & b`, `a | b`, `a ^ b` and `!a` is that operation on the top bits.
 -- Assumes nothing.
-use mathlib.Core.Path.{_≡_, _∙_, ap, sym, refl}
+use mathlib.Core.Path.{_≡_, _∙_, ap, refl}
 use mathlib.Core.Bool.{Bool, true, false, not, _&&_, _||_, xor}
-use Prim.Native.Nat.{ℕ, zero, suc, _+_, _-_, _/_, _%_, _^_, _<_}
+use Prim.Native.Nat.{ℕ, zero, suc, _-_, _/_, _%_, _^_, _<_}
 use native.Mathlib.Nat.{mod-lt, mod-eq-of-lt}
 use native.Mathlib.Omega.{arith}
 use lib.Dec.{eqb, lit<}
 use lib.Bits.{bitAnd, bitOr, bitXor, and-shr, or-shr, xor-shr, and-mod, or-mod, xor-mod, and-mask, xor-add-and}
 use Rattle.alu.specs.declared.types.Size.{Size}
 use Rattle.alu.specs.declared.types.Size.the-variants.{Byte, Word, Long}
-use Rattle.alu.specs.Bits.{bitsOf, bit, top}
+use Rattle.alu.specs.Bits.{bitsOf, top}
 
 -- an operation f on words that goes bit by bit, and does g on single bits
 module _ (f : ℕ → ℕ → ℕ) (g : Bool → Bool → Bool)

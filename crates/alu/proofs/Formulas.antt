@@ -1,6 +1,6 @@
 -- The Manual's V and C in the forms that the code and the laws use: as one word whose top bit is the flag, and SUB's and NEG's by ADD's.
 -- A formula of three bits is settled by its eight settings. Assumes nothing.
-use mathlib.Core.Path.{_≡_, _∙_, refl}
+use mathlib.Core.Path.{_≡_, refl}
 use Prim.Native.Nat.{ℕ, _-_, _^_, _<_}
 use mathlib.Core.Bool.{Bool, true, false, not, _&&_, _||_, xor, Bool·beq}
 use lib.Dec.{T}

@@ -3,10 +3,13 @@ pub mod Signed
 mod Bitwise
 mod Formulas
 mod Whole
+mod Minus
 pub mod Laws
 pub mod Integers
 pub mod Wide
 pub mod Turns
 pub mod Rings
 mod Overflow
+pub mod Counts
+pub mod Products
 pub mod Sums

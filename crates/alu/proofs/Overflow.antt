@@ -5,14 +5,13 @@
 use mathlib.Core.Path.{_≡_, refl, sym, ap, ap₂, _∙_}
 use mathlib.Core.Bool.{Bool, true, false, xor, _||_}
 use mathlib.Core.Logic.{_⊎_, inl, inr}
-use Prim.Native.Nat.{ℕ, zero, suc, _+_, _-_, _*_, _/_, _%_, _^_, _≤_, _<_}
+use Prim.Native.Nat.{ℕ, zero, suc, _+_, _-_, _*_, _%_, _^_, _≤_, _<_}
 use native.Mathlib.Nat.{pow-suc, zero-add, suc-add, zero-div, mul-one, zero-mod, mul-mod-left}
 use native.Mathlib.Omega.{arith}
 use lib.Dec.{eqb}
 use lib.Bits.{bitOr, bitXor}
 use Rattle.alu.specs.Bits.{low, top}
 use Rattle.alu.specs.Shifts.{left, changed}
-use Rattle.alu.proofs.Bounds.{low-lt}
 use Rattle.alu.proofs.Bitwise.{top-or, top-xor}
 use Rattle.alu.proofs.Turns.{double-low, low-low, top-low}
 

@@ -61,10 +61,10 @@ turned q i s h l =
     }
 
 -- turned by nothing, and by all of its places
-whole : (p s : ℕ) → s < 2 ^ p → turnedLeft p 0 s ≡ s
+pub whole : (p s : ℕ) → s < 2 ^ p → turnedLeft p 0 s ≡ s
 whole p s l = omega (arith, mod-eq-of-lt l, ap (λ (x : ℕ). x % 2 ^ p) (mul-one s), ap (λ (m : ℕ). s / 2 ^ m) (sub-zero p), div-eq-of-lt l)
 
-around : (p s : ℕ) → turnedLeft p p s ≡ s
+pub around : (p s : ℕ) → turnedLeft p p s ≡ s
 around p s = omega (arith, mul-mod-left s (2 ^ p), ap (λ (m : ℕ). s / 2 ^ m) (sub-self p), div-one s)
 
 pub turned-lt : (q j s : ℕ) → j ≤ q + 1 → s < 2 ^ (q + 1) → turnedLeft (q + 1) j s < 2 ^ (q + 1)

@@ -2,7 +2,7 @@
 --     left-exact, right-exact      a position drops nothing: what comes in and the operand are the operand after it and what goes out
 --     left-above, right-below      it is a move of all n + 1 places, the operand and the bit held above it or below it
 --     lsl-turns, lsr-turns         k positions with zeros coming in
---     asr-turns                    k positions with copies of the top bit coming in
+--     asr-positive, asr-complement, asr-turns   k positions with copies of the top bit coming in
 --     asl-turns                    ASL moves as LSL does
 -- Assumes nothing.
 use mathlib.Core.Path.{_≡_, refl, sym, ap, ap₂, _∙_}
@@ -163,7 +163,7 @@ asr-turn : (n s : ℕ) (b : Bool) → 0 < n → top n (s / 2) ≡ b → right n 
 asr-turn n s b positive t = ap (λ (x : Bool). right n x (s / 2)) t ∙ right-below n b (s / 2) positive
 
 -- from 0 on as LSR
-asr-positive : (n k : ℕ) (h : Held) → 0 < n → h .value < 2 ^ (n - 1) → turns Asr n k h ≡ fromBelow (below h / 2 ^ k)
+pub asr-positive : (n k : ℕ) (h : Held) → 0 < n → h .value < 2 ^ (n - 1) → turns Asr n k h ≡ fromBelow (below h / 2 ^ k)
 unfolding turns turn
 asr-positive n zero h positive l = sym (ap fromBelow (div-one (below h)) ∙ of-below h)
 asr-positive n (suc k) h positive l =
@@ -177,7 +177,7 @@ abbrev pub ones : ℕ → ℕ
 ones n = 2 ^ (n + 1) - 1
 
 -- below 0 it is the complement that takes zeros
-asr-complement :
+pub asr-complement :
     (n k : ℕ) (h : Held) → 0 < n → 2 ^ (n - 1) ≤ h .value → h .value < 2 ^ n →
     turns Asr n k h ≡ fromBelow (ones n - (ones n - below h) / 2 ^ k)
 unfolding turns turn

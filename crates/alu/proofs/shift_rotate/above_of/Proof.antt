@@ -1,10 +1,9 @@
 -- `above_of` meets its contract.
 -- Assumes nothing.
 use native.Mathlib.Omega.{arith}
-use mathlib.Core.Path.{ap, ap₂, _∙_}
-use Prim.Native.Nat.{ℕ, _+_, _*_}
+use mathlib.Core.Path.{ap₂}
+use Prim.Native.Nat.{_+_, _*_}
 use Rattle.alu.specs.Bits.{digit}
-use Rattle.alu.proofs.Bounds.{digit-le}
 use Rattle.alu.proofs.Turns.{digit-times}
 use borrow.Author.Needs.{needs}
 use Rattle.alu.proofs.shift_rotate.above_of.Statement.{statement}
