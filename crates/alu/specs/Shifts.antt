@@ -1,6 +1,6 @@
 -- The eight shifts and rotates: the operand moves by one position, as often as the count says. Document 01, "Result and flag rules" and "Clock
--- figures". n is the number of bits, k the number of positions. What document 01 says of counts at and above the size, of whole rounds and of
--- products and quotients follows from the single position: `proofs/Counts.antt`, `proofs/Products.antt`. Assumes nothing.
+-- figures". n is the number of bits, k the number of positions. What document 01 says of counts at and above the size and of whole rounds follows
+-- from the single position (`proofs/Counts.antt`); so do products and quotients (`proofs/Products.antt`). Assumes nothing.
 use Prim.Native.Nat.{ℕ, zero, suc, _+_, _-_, _*_, _/_, _%_, _^_}
 use mathlib.Core.Bool.{Bool, false, not, cond, xor, _&&_, _||_}
 use lib.Dec.{eqb, ltb}
@@ -15,17 +15,18 @@ use Rattle.alu.specs.Bits.{bitsOf, low, lowest, top, digit}
 use Rattle.alu.specs.ConditionCodes.{resultFlags}
 use Rattle.alu.specs.Answers.{accepted, refused, figure}
 
--- `Held` is an operand of n bits, `value`, and the bit that went out of it last, `out`.
+-- `Held`: an operand of n bits (`value`, below 2 ^ n) and one bit beside it (`out`): the bit that went out last; before the first position, X.
 
 -- one position to the left: b comes in at the bottom, the top bit goes out
-abbrev pub left : (n : ℕ) → (b : Bool) → (v : ℕ) → Held
-left n b v = record { value = low n (2 * v + digit b); out = top n v }
+abbrev pub left : (n : ℕ) → (b : Bool) → (value : ℕ) → Held
+left n b value = record { value = low n (2 * value + digit b); out = top n value }
 
 -- one position to the right: b comes in at the top, the lowest bit goes out
-abbrev pub right : (n : ℕ) → (b : Bool) → (v : ℕ) → Held
-right n b v = record { value = v / 2 + digit b * 2 ^ (n - 1); out = lowest v }
+abbrev pub right : (n : ℕ) → (b : Bool) → (value : ℕ) → Held
+right n b value = record { value = value / 2 + digit b * 2 ^ (n - 1); out = lowest value }
 
--- one position of each operation; it says what comes in: a zero, a copy of the top bit, the bit that goes out, or the bit that went out before
+-- one position of each operation. What comes in: a zero (ASL, LSL, LSR), a copy of the top bit (ASR), the bit that goes out (ROL, ROR), or X,
+-- the bit held (ROXL, ROXR). ASL moves as LSL does; only V differs
 unfoldable pub turn : ShiftOp → (n : ℕ) → Held → Held
 turn Asl n h = left n false (h .value)
 turn Asr n h = right n (top n (h .value)) (h .value)
@@ -45,19 +46,21 @@ turns op n (suc k) h = turn op n (turns op n k h)
 abbrev pub start : (n value : ℕ) → (x : Bool) → Held
 start n value x = record { value = low n value; out = x }
 
+-- a value moved by k positions
 abbrev pub moved : ShiftOp → (n k value : ℕ) → (x : Bool) → Held
 moved op n k value x = turns op n k (start n value x)
 
--- V of ASL: the top bit changes at one of the k positions
-unfoldable pub changed : (n k v : ℕ) → Bool
-changed n zero v = false
-changed n (suc k) v = let next = left n false v .value in xor (top n v) (top n next) || changed n k next
+-- V of ASL: the top bit changes at any of the k positions
+unfoldable pub changed : (n k value : ℕ) → Bool
+changed n zero value = false
+changed n (suc k) value = let next = left n false value .value in xor (top n value) (top n next) || changed n k next
 
--- N and Z of the result; every position costs 2 clocks
+-- N and Z of the result's low bits, also where it comes back unmasked; 6 clocks, long 8, and 2 for each position
 abbrev pub shiftAnswer : Size → (k result : ℕ) → (x v c : Bool) → Answer
 shiftAnswer size k result x v c = accepted result (resultFlags (bitsOf size) result x v c) (figure size 6 8 + 2 * k)
 
 -- ASL, ASR, LSL, LSR: C and X are the last bit out. By 0 the value comes back as it was handed in, C is clear, X stays
+-- (the bit held is still X)
 abbrev pub shifted : Size → (k value : ℕ) → Held → (v : Bool) → Answer
 shifted size k value h v = shiftAnswer size k (cond (eqb k 0) value (h .value)) (h .out) v (not (eqb k 0) && h .out)
 
@@ -69,7 +72,7 @@ rotated size k h x = shiftAnswer size k (h .value) x false (not (eqb k 0) && h .
 abbrev pub through : Size → (k : ℕ) → Held → Answer
 through size k h = shiftAnswer size k (h .value) (h .out) false (h .out)
 
--- the operations. The count is taken mod 64; ROXL and ROXR refuse a greater one. V is clear for all but ASL
+-- the operations. ASL to ROR take the count mod 64; ROXL and ROXR refuse a count above 63. V is clear for all but ASL
 unfoldable pub shiftOf : ShiftOp → Size → (count value : ℕ) → Flags → Answer
 shiftOf Asl size count value f =
     let n = bitsOf size in

@@ -38,11 +38,11 @@ table =
     gives (λ f. subxOf Byte 0xff 0x00 (withX f)) 0x00 set any same clear set ∷  -- 4
     gives (negOf Byte 0x80) 0x80 set set clear set set ∷  -- 5
     -- shifts: count, then value
-    gives (shiftOf Asl Byte 8 0x01) 0x00 set any set set set ∷  -- 6
-    gives (shiftOf Asl Byte 9 0x01) 0x00 clear any set set clear ∷
+    gives (shiftOf Asl Byte 8 0x01) 0x00 set any set set set ∷  -- 6, by 8
+    gives (shiftOf Asl Byte 9 0x01) 0x00 clear any set set clear ∷  -- 6, by 9
     gives (shiftOf Asr Byte 9 0x80) 0xff set set any any set ∷  -- 7
-    gives (shiftOf Lsl Byte 0 0x1234) 0x1234 any clear clear clear clear ∷  -- 8
-    gives (shiftOf Lsl Byte 64 0x1234) 0x1234 any clear clear clear clear ∷
+    gives (shiftOf Lsl Byte 0 0x1234) 0x1234 any clear clear clear clear ∷  -- 8, by 0
+    gives (shiftOf Lsl Byte 64 0x1234) 0x1234 any clear clear clear clear ∷  -- 8, by 64
     givesIn 22 (shiftOf Rol Byte 8 0x81) 0x81 any set any any set ∷  -- 9
     givesIn 40 (λ f. shiftOf Roxl Word 17 0x8001 (withX f)) 0x8001 set set any any set ∷ []  -- 10
 

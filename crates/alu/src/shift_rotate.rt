@@ -175,20 +175,13 @@ fn round_x(size: Size, k: u32) -> u32
     }
 }
 
-// The bits go round. By k to the right is by the rest of the round to the left.
-fn rol(size: Size, k: u32, value: u32) -> u32
-    ensures { λ r. ⌜ r ≡ turnedLeft (bitsOf size) (k % bitsOf size) (low (bitsOf size) value) ⌝ }
+// The bits go round to the left by j. By j to the right is by the rest of the round to the left.
+fn rotate(size: Size, j: u32, value: u32) -> u32
+    requires { ⌜ j ≤ bitsOf size ⌝ }
+    ensures { λ r. ⌜ r ≡ turnedLeft (bitsOf size) j (low (bitsOf size) value) ⌝ }
 {
     let ring = masked(size, value as u64) as u64;
-    turned_left(bits(size), round(size, k), ring) as u32
-}
-
-fn ror(size: Size, k: u32, value: u32) -> u32
-    ensures { λ r. ⌜ r ≡ turnedLeft (bitsOf size) (bitsOf size - k % bitsOf size) (low (bitsOf size) value) ⌝ }
-{
-    let ring = masked(size, value as u64) as u64;
-    let places = bits(size);
-    turned_left(places, places - round(size, k), ring) as u32
+    turned_left(bits(size), j, ring) as u32
 }
 
 // The bits and X go round.
@@ -272,7 +265,7 @@ pub fn exec_rol(size: Size, shift: u32, value: u32, flags: Flags) -> Answer
     ensures { λ r. ⌜ r ≡ shiftOf ShiftOp.Rol size shift value flags ⌝ }
 {
     let k = shift % 64;
-    let result = rol(size, k, value);
+    let result = rotate(size, round(size, k), value);
     let last = result % 2 == 1;
     answer(size, k, result, flags.x, false, (k != 0) & last)
 }
@@ -282,20 +275,22 @@ pub fn exec_ror(size: Size, shift: u32, value: u32, flags: Flags) -> Answer
     ensures { λ r. ⌜ r ≡ shiftOf ShiftOp.Ror size shift value flags ⌝ }
 {
     let k = shift % 64;
-    let result = ror(size, k, value);
+    let rest = bits(size) - round(size, k);
+    let result = rotate(size, rest, value);
     let last = top(size, result);
     answer(size, k, result, flags.x, false, (k != 0) & last)
 }
 
-// ROXL Dx,Dy and ROXL #<data>,Dy. C and X are the one bit. The figure is of the whole count.
+// ROXL Dx,Dy and ROXL #<data>,Dy. C and X are the one bit, after whole rounds too (9 on a byte). The
+// figure is of the whole count.
 pub fn exec_roxl(size: Size, shift: u32, value: u32, flags: Flags) -> Answer
     ensures { λ r. ⌜ r ≡ shiftOf ShiftOp.Roxl size shift value flags ⌝ }
 {
     if 63 < shift {
         return refused(Verdict::BadCount, flags);
     }
-    let h = roxl(size, shift, value, flags.x);
-    answer(size, shift, h.value, h.out, false, h.out)
+    let left = roxl(size, shift, value, flags.x);
+    answer(size, shift, left.value, left.out, false, left.out)
 }
 
 // ROXR Dx,Dy and ROXR #<data>,Dy
@@ -305,6 +300,6 @@ pub fn exec_roxr(size: Size, shift: u32, value: u32, flags: Flags) -> Answer
     if 63 < shift {
         return refused(Verdict::BadCount, flags);
     }
-    let h = roxr(size, shift, value, flags.x);
-    answer(size, shift, h.value, h.out, false, h.out)
+    let right = roxr(size, shift, value, flags.x);
+    answer(size, shift, right.value, right.out, false, right.out)
 }

@@ -32,7 +32,8 @@ ccrOf f = digit (f .x) * 16 + digit (f .n) * 8 + digit (f .z) * 4 + digit (f .v)
 abbrev pub packed : Answer → ℕ
 packed a = a .result + ccrOf (a .flags) * 2 ^ 32 + a .clocks % 256 * 2 ^ 40 + numberOf (a .verdict) * 2 ^ 48
 
--- the operations by number; s does not count where there is no source; a number that names none is refused
+-- the operations by number, as document 01's forms table has them; the gaps are for operations to come. Of a shift s is the count and d the value;
+-- where there is no source s is not looked at. A number that names no operation is refused with 2
 unfoldable pub answerOf : (op : ℕ) → Size → (s d : ℕ) → Flags → Answer
 answerOf op size s d f =
     cond (eqb op 0x00) (addOf size s d f)

@@ -1,5 +1,6 @@
 -- `exec_ror` meets its contract: the top bit of the ring is the last one out.
 -- Assumes nothing.
+use native.Mathlib.Omega.{arith}
 use mathlib.Core.Path.{_∙_}
 use Prim.Native.Nat.{_%_}
 use Rattle.alu.specs.Bits.{bitsOf}
@@ -13,11 +14,11 @@ use Rattle.alu.proofs.shift_rotate.exec_ror.Tie as tie
 returns : tie.Need-returns
 unfolding shiftOf
 returns c =
-    let a = c .before .before .before .args in
+    let a = c .before .before .before .before .before .args in
     let n = bitsOf (a .size) in
     let shown = ror-turns n (start n (a .value) (a .flags .x)) (bits-pos (a .size)) (low-lt n (a .value)) (a .shift % 64) in
-    rw (c .before .top .ensures, c .before .before .ror .ensures) at (c .answer .ensures) ∙
+    rw (c .before .top .ensures, c .before .before .rotate .ensures, c .before .before .before .round .ensures .0, c .before .before .before .before .bits .ensures .0) at (c .answer .ensures) ∙
     rotated-answer (a .size) (a .shift % 64) (a .flags .x) shown
 
 pub exec-ror-spec : {M : Type 1} → statement M
-exec-ror-spec = tie.close (tie.spec (search needs) (search needs) (search needs) returns)
+exec-ror-spec = tie.close (tie.spec (search needs) (search needs) (search needs) (λ c κs. omega arith) (search needs) (search needs) returns)
