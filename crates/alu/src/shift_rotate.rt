@@ -112,7 +112,8 @@ fn lsr(size: Size, k: u32, value: u32, x: bool) -> Held
     from_below(places >> k)
 }
 
-// Copies of the top bit come in at the top: below zero, as many ones as there are positions.
+// Copies of the top bit come in at the top: below zero, that is from `least` on, as many ones as there
+// are positions.
 fn asr(size: Size, k: u32, value: u32, x: bool) -> Held
     requires { ⌜ k < 64 ⌝ }
     ensures { λ r. ⌜ r ≡ moved ShiftOp.Asr (bitsOf size) k value x ⌝ }
