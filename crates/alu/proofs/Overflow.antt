@@ -24,24 +24,24 @@ or-false true = refl
 or-false false = refl
 
 -- the operand doubled in a word of 32 bits, where n of them count
-next : (n v : ℕ) → n ≤ 32 → low n (v * 2 ^ 1 % 2 ^ 32) ≡ left n false (low n v) .value
-next n v n≤32 =
+doubled : (n v : ℕ) → n ≤ 32 → low n (v * 2 ^ 1 % 2 ^ 32) ≡ left n false (low n v) .value
+doubled n v n≤32 =
     low-low n 32 (v * 2 ^ 1) n≤32 ∙ ap (low n) (omega arith) ∙ sym (double-low n v 0)
 
--- `moved` has the top bit set if it changed so far; the operand is v
+-- `seen` has its top bit set if the operand's changed so far; the operand is v
 pub walk-step :
-    (n k v moved : ℕ) → 0 < n → n ≤ 32 →
+    (n k v seen : ℕ) → 0 < n → n ≤ 32 →
     let v′ = v * 2 ^ 1 % 2 ^ 32 in
-    top n moved || changed n (suc k) (low n v) ≡ top n (bitOr moved (bitXor v v′)) || changed n k (low n v′)
+    top n seen || changed n (suc k) (low n v) ≡ top n (bitOr seen (bitXor v v′)) || changed n k (low n v′)
 unfolding changed
-walk-step n k v moved positive n≤32 =
+walk-step n k v seen positive n≤32 =
     let v′ = v * 2 ^ 1 % 2 ^ 32 in
     let w = left n false (low n v) .value in
-    let is : low n v′ ≡ w = next n v n≤32 in
+    let is : low n v′ ≡ w = doubled n v n≤32 in
     let now : top n v ≡ top n (low n v) = sym (top-low n v positive) in
     let then : top n v′ ≡ top n w = sym (top-low n v′ positive) ∙ ap (top n) is in
-    sym (ap₂ _||_ (top-or n moved (bitXor v v′) ∙ ap (_||_ (top n moved)) (top-xor n v v′ ∙ ap₂ xor now then)) (ap (changed n k) is) ∙
-    or-assoc (top n moved) (xor (top n (low n v)) (top n w)) (changed n k w))
+    sym (ap₂ _||_ (top-or n seen (bitXor v v′) ∙ ap (_||_ (top n seen)) (top-xor n v v′ ∙ ap₂ xor now then)) (ap (changed n k) is) ∙
+    or-assoc (top n seen) (xor (top n (low n v)) (top n w)) (changed n k w))
 
 xor-self : (a : Bool) → xor a a ≡ false
 unfolding xor
@@ -61,9 +61,9 @@ settled n zero j v none =
     let is : low n v ≡ 0 = ap (low n) (sym (mul-one v)) ∙ none in rw (zero-add j, is) (changed-zero n j)
 settled n (suc i) j v none =
     let w = left n false (low n v) .value in
-    let doubled : w ≡ low n (2 * v + 0) = double-low n v 0 in
+    let w-is : w ≡ low n (2 * v + 0) = double-low n v 0 in
     let later : low n ((2 * v + 0) * 2 ^ i) ≡ 0 = ap (low n) (omega (arith, ap (_*_ v) (pow-suc 2 i))) ∙ none in
-    rw (suc-add i j, doubled) (ap (_||_ (xor (top n (low n v)) (top n (low n (2 * v + 0))))) (settled n i j (2 * v + 0) later))
+    rw (suc-add i j, w-is) (ap (_||_ (xor (top n (low n v)) (top n (low n (2 * v + 0))))) (settled n i j (2 * v + 0) later))
 
 pub changed-most : (n k v : ℕ) → n ≤ k → changed n k (low n v) ≡ changed n n (low n v)
 changed-most n k v n≤k =
@@ -81,6 +81,6 @@ pub walk-start : (n k v j : ℕ) → (j ≡ k) ⊎ ((n ≤ k) × (j ≡ n)) → 
 walk-start n k v j (inl all) = rw (top-zero n, all)
 walk-start n k v j (inr most) = rw (top-zero n, most .1) (changed-most n k v (most .0))
 
-pub walk-end : (n k v moved : ℕ) → k ≡ 0 → top n moved || changed n k (low n v) ≡ top n moved
+pub walk-end : (n k v seen : ℕ) → k ≡ 0 → top n seen || changed n k (low n v) ≡ top n seen
 unfolding changed
-walk-end n k v moved none = rw none (or-false (top n moved))
+walk-end n k v seen none = rw none (or-false (top n seen))

@@ -29,7 +29,7 @@ scale-mod s m {p} hm hp =
 -- What a turn does to a ring: the bit at one end goes to the other. Turned by i it is a bit above the rest, turned by i + 1 the bit below the rest.
 pub record Turned (q i s : ℕ) : Type 0 where
   pub parts : Held
-  pub fits : parts .value < 2 ^ q
+  pub within : parts .value < 2 ^ q
   pub now : turnedLeft (q + 1) i s ≡ above q parts
   pub next : turnedLeft (q + 1) (i + 1) s ≡ below parts
 
@@ -43,21 +43,21 @@ turned q i s h l =
     let e : c * p ≡ 2 ^ q = sym (pow-add 2 (q - i) i) ∙ ap (_^_ 2) (omega arith) in
     let e₁ : 2 ^ (q + 1) ≡ c * 2 * p = omega (arith, e, pow-add 2 q 1) in
     let e₂ : 2 ^ (q + 1) ≡ c * (p * 2) = omega (arith, e, pow-add 2 q 1) in
-    let low : s * p % 2 ^ (q + 1) ≡ r * (c * p) + s % c * p =
+    let lower : s * p % 2 ^ (q + 1) ≡ r * (c * p) + s % c * p =
     ap (_%_ (s * p)) e₁ ∙ scale-mod s (c * 2) (omega arith) hp ∙ ap (λ (m : ℕ). s % m * p) (mul-comm c 2)
     ∙ ap (λ (m : ℕ). m * p) (mod-mul s (omega arith) hc) ∙ omega arith in
-    let high : s / 2 ^ (q + 1 - i) ≡ s / c / 2 =
+    let upper : s / 2 ^ (q + 1 - i) ≡ s / c / 2 =
     ap (λ (m : ℕ). s / 2 ^ m) (omega arith) ∙ ap (_/_ s) (pow-add 2 (q - i) 1) ∙ sym (div-div-eq-div-mul s c 2) in
-    let low₂ : s * 2 ^ (i + 1) % 2 ^ (q + 1) ≡ s % c * (p * 2) =
+    let lower₂ : s * 2 ^ (i + 1) % 2 ^ (q + 1) ≡ s % c * (p * 2) =
     ap₂ (λ (a b : ℕ). s * a % b) (pow-add 2 i 1) e₂ ∙ scale-mod s c hc (omega arith) in
-    let high₂ : s / 2 ^ (q + 1 - (i + 1)) ≡ s / c = ap (λ (m : ℕ). s / 2 ^ m) (omega arith) in
-    let top : digit (lowest (s / c)) * 2 ^ q ≡ r * (c * p) = ap₂ _*_ (digit-lowest (s / c)) (sym e) in
+    let upper₂ : s / 2 ^ (q + 1 - (i + 1)) ≡ s / c = ap (λ (m : ℕ). s / 2 ^ m) (omega arith) in
+    let end : digit (lowest (s / c)) * 2 ^ q ≡ r * (c * p) = ap₂ _*_ (digit-lowest (s / c)) (sym e) in
     let small : s / c / 2 < p = subst (λ (m : ℕ). m < p) (sym (div-div-eq-div-mul s c 2)) (div-lt-iff-lt-mul (omega arith) .1 (omega (arith, e₁))) in
     record {
       parts = record { value = s % c * p + s / c / 2; out = lowest (s / c) };
-      fits = subst (λ (m : ℕ). s % c * p + s / c / 2 < m) e (digits-lt (mod-lt s hc) small);
-      now = omega (arith, low, high, top);
-      next = omega (arith, low₂, high₂, digit-lowest (s / c));
+      within = subst (λ (m : ℕ). s % c * p + s / c / 2 < m) e (digits-lt (mod-lt s hc) small);
+      now = omega (arith, lower, upper, end);
+      next = omega (arith, lower₂, upper₂, digit-lowest (s / c));
     }
 
 -- turned by nothing, and by all of its places
@@ -102,21 +102,21 @@ module _ (q k s : ℕ) (l : s < 2 ^ (q + 1)) where
       (λ e. ap at {y = q + 1} (omega arith) ∙ around (q + 1) s ∙ sym (whole (q + 1) s l) ∙ ap at {x = 0} (omega arith)) (next-place q k)
 
 -- What holds of the ring before the first turn, and goes from a ring to the ring after one turn, holds after k turns.
-module _ (q s : ℕ) (l : s < 2 ^ (q + 1)) (P : ℕ → ℕ → Type 0) (start : P 0 s) where
+module _ (q s : ℕ) (l : s < 2 ^ (q + 1)) (P : ℕ → ℕ → Type 0) (first : P 0 s) where
   pub ring-left : ((k : ℕ) (g : Held) → g .value < 2 ^ q → P k (above q g) → P (suc k) (below g)) → (k : ℕ) → P k (turnedLeft (q + 1) (k % (q + 1)) s)
-  ring-left step zero = rw (zero-mod, whole (q + 1) s l) start
+  ring-left step zero = rw (zero-mod, whole (q + 1) s l) first
   ring-left step (suc k) =
       let t = turned q (k % (q + 1)) s (omega (arith, place-lt q k)) l in
-      rw (turn-on q k s l, t .next) (step k (t .parts) (t .fits) (rw (t .now) at (ring-left step k)))
+      rw (turn-on q k s l, t .next) (step k (t .parts) (t .within) (rw (t .now) at (ring-left step k)))
 
   -- to the right: as far to the left as is left of the whole way
   pub ring-right : ((k : ℕ) (g : Held) → g .value < 2 ^ q → P k (below g) → P (suc k) (above q g)) → (k : ℕ) → P k (turnedLeft (q + 1) (q + 1 - k % (q + 1)) s)
-  ring-right step zero = rw (zero-mod, sub-zero, around (q + 1) s) start
+  ring-right step zero = rw (zero-mod, sub-zero, around (q + 1) s) first
   ring-right step (suc k) =
       let b = place-lt q k in
       let t = turned q (q - k % (q + 1)) s (omega arith) l in
       let e : q + 1 - k % (q + 1) ≡ q - k % (q + 1) + 1 = omega arith in
-      rw (turn-back q k s l, t .now) (step k (t .parts) (t .fits) (rw (e, t .next) at (ring-right step k)))
+      rw (turn-back q k s l, t .now) (step k (t .parts) (t .within) (rw (e, t .next) at (ring-right step k)))
 
 -- ---- the four rotates
 

@@ -232,8 +232,8 @@ pub asr-turns :
     (fromBelow (s / 2 ^ k + fill) ≡ turns Asr n k h) × (s / 2 ^ k + fill < 2 ^ (n + 1))
 asr-turns n k h positive l s m fill s-is m-is (inl clear) =
     let is : s / 2 ^ k + fill ≡ below h / 2 ^ k = ap₂ (λ (x y : ℕ). x / 2 ^ k + y) s-is (clear .1) ∙ add-zero (below h / 2 ^ k) in
-    let low : h .value < 2 ^ (n - 1) = omega (arith, clear .0, pow-half n positive) in (
-      ap fromBelow is ∙ sym (asr-positive n k h positive low),
+    let under : h .value < 2 ^ (n - 1) = omega (arith, clear .0, pow-half n positive) in (
+      ap fromBelow is ∙ sym (asr-positive n k h positive under),
       omega (arith, is, shr-le (below h) k, below-lt n h l),
     )
 asr-turns n k h positive l s m fill s-is m-is (inr set) =
