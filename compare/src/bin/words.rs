@@ -22,12 +22,17 @@ fn pairs(op: Op) -> Tally {
     tally
 }
 
-/// The operations named. `differ` takes every word of a unary one already, so that none is left here.
+/// `differ` takes every word of a unary operation, and every word by every count of a shift.
+fn is_left_out(op: Op) -> bool {
+    op.is_unary() || op.is_shift() || !op.sizes().contains(&Size::Word)
+}
+
+/// The operations named, or all that aren't left out.
 fn chosen(names: &[String]) -> Result<Vec<Op>, String> {
     let ops = port::named(names)?;
-    match ops.iter().find(|op| op.is_unary() && !names.is_empty()) {
-        Some(op) => Err(format!("{op:?} has one operand: differ takes every word of it")),
-        None => Ok(ops.into_iter().filter(|op| !op.is_unary() && op.sizes().contains(&Size::Word)).collect()),
+    match ops.iter().find(|&&op| is_left_out(op) && !names.is_empty()) {
+        Some(op) => Err(format!("{op:?} has no pairs of words, or differ takes every word of it")),
+        None => Ok(ops.into_iter().filter(|&op| !is_left_out(op)).collect()),
     }
 }
 
