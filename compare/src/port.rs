@@ -5,7 +5,11 @@ use crate::packed::{Answer, Request};
 use crate::packed::{OPS, Op, Op::*};
 
 /// The operations that the port has. Comparisons, vectors and speed follow this list.
-pub const PORTED: [Op; 15] = [Add, Sub, Cmp, Addx, Subx, Neg, Negx, Asl, Asr, Lsl, Lsr, Rol, Ror, Roxl, Roxr];
+#[rustfmt::skip]
+pub const PORTED: [Op; 26] = [
+    Add, Sub, Cmp, Addx, Subx, Adda, Suba, Cmpa, Addq, Subq, AddqA, SubqA, Clr, Neg, Negx, Not,
+    Ext, Asl, Asr, Lsl, Lsr, Rol, Ror, Roxl, Roxr, Chk,
+];
 
 #[cfg(feature = "port")]
 unsafe extern "C" {

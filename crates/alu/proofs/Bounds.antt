@@ -1,6 +1,6 @@
 -- Bounds that the functions' proofs cite.
 -- Assumes nothing.
-use Prim.Native.Nat.{ℕ, _≤_, _<_, _^_}
+use Prim.Native.Nat.{ℕ, _+_, _-_, _≤_, _<_, _^_}
 use mathlib.Core.Bool.{Bool, true, false}
 use native.Mathlib.Nat.{mod-lt}
 use lib.Dec.{lit<, lit≤}
@@ -9,7 +9,7 @@ use Rattle.alu.specs.declared.types.Size.{Size}
 use Rattle.alu.specs.declared.types.Size.the-variants.{Byte, Word, Long}
 use Rattle.alu.specs.declared.types.Verdict.{Verdict}
 use Rattle.alu.specs.declared.types.Verdict.the-variants.{Accepted, BadCount, NoSuchSize}
-use Rattle.alu.specs.Bits.{bitsOf, low, digit}
+use Rattle.alu.specs.Bits.{bitsOf, low, digit, raised}
 use Rattle.alu.specs.Answers.{numberOf, figure}
 
 -- a size has from 1 to 32 bits
@@ -35,6 +35,10 @@ digit-le false = lit≤ tt
 
 pub low-lt : (n x : ℕ) → low n x < 2 ^ n
 low-lt n x = mod-lt x (pow-pos n)
+
+pub raised-lt : (n x : ℕ) → raised n x < 2 ^ n
+unfolding raised
+raised-lt n x = mod-lt (x + 2 ^ (n - 1)) (pow-pos n)
 
 -- a clock figure is no more than the greater of its two numbers
 pub figure-le : (size : Size) (short long most : ℕ) → short ≤ most → long ≤ most → figure size short long ≤ most

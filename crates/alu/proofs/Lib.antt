@@ -7,6 +7,8 @@ mod Minus
 pub mod Laws
 pub mod Integers
 pub mod Wide
+pub mod Extension
+pub mod Checks
 pub mod Turns
 pub mod Rings
 mod Overflow

@@ -1,4 +1,4 @@
--- Answers: what an accepted and what a refused operation hands back, and document 01's number of each verdict.
+-- Answers: what an accepted and what a refused operation hands back, document 01's number of each verdict, and what it says of CHK's classes.
 -- Assumes nothing.
 use Prim.Native.Nat.{ℕ}
 use Rattle.alu.specs.declared.types.Size.{Size}
@@ -7,6 +7,9 @@ use Rattle.alu.specs.declared.types.Flags.{Flags}
 use Rattle.alu.specs.declared.types.Verdict.{Verdict}
 use Rattle.alu.specs.declared.types.Verdict.the-variants.{Accepted, BadCount, NoSuchSize}
 use Rattle.alu.specs.declared.types.Answer.{Answer}
+use Rattle.alu.specs.declared.types.Check.{Check}
+use Rattle.alu.specs.declared.types.Check.the-variants.{Pass, Over, Short, Below}
+use Rattle.alu.specs.declared.types.Checked.{Checked}
 
 -- document 01's refusal numbers; 0 where nothing is refused
 abbrev pub numberOf : Verdict → ℕ
@@ -26,3 +29,28 @@ abbrev pub figure : Size → (short long : ℕ) → ℕ
 figure Byte short long = short
 figure Word short long = short
 figure Long short long = long
+
+-- an operation without a byte form: byte is refused
+abbrev pub unlessByte : Size → Flags → Answer → Answer
+unlessByte Byte flags answer = refused NoSuchSize flags
+unlessByte Word flags answer = answer
+unlessByte Long flags answer = answer
+
+-- CHK's classes: document 01's figures, and numbers of our own (document 01 has none)
+abbrev pub chkFigure : Check → ℕ
+chkFigure Pass = 10
+chkFigure Over = 8
+chkFigure Short = 8
+chkFigure Below = 10
+
+abbrev pub classOf : Check → ℕ
+classOf Pass = 0
+classOf Over = 1
+classOf Short = 2
+classOf Below = 3
+
+-- CHK has the word form alone: byte and long are refused, with Pass
+abbrev pub onlyWord : Size → Flags → Checked → Checked
+onlyWord Byte flags checked = record { check = Pass; answer = refused NoSuchSize flags }
+onlyWord Word flags checked = checked
+onlyWord Long flags checked = record { check = Pass; answer = refused NoSuchSize flags }

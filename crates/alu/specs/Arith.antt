@@ -1,14 +1,19 @@
 -- The integer arithmetic of the register forms: document 01, "Result and flag rules" and "Clock figures".
 -- s is the source, d the destination, f the flags before (ADD, SUB and NEG take it for the one shape and do not look at it). Assumes nothing.
-use Prim.Native.Nat.{ℕ, _+_, _-_, _%_, _^_}
-use mathlib.Core.Bool.{Bool, false}
+use Prim.Native.Nat.{ℕ, _+_, _-_, _/_, _%_, _^_}
+use mathlib.Core.Bool.{Bool, false, not, cond, _&&_}
 use lib.IntN.{ℤ, pos, _+ℤ_, _-ℤ_}
+use lib.Signed.{ltZ}
 use Rattle.alu.specs.declared.types.Size.{Size}
+use Rattle.alu.specs.declared.types.Size.the-variants.{Byte, Word, Long}
 use Rattle.alu.specs.declared.types.Flags.{Flags}
 use Rattle.alu.specs.declared.types.Answer.{Answer}
-use Rattle.alu.specs.Bits.{bitsOf, low, digit, signed}
-use Rattle.alu.specs.ConditionCodes.{addFlags, subFlags, negFlags, keepZ, keepX}
-use Rattle.alu.specs.Answers.{accepted, figure}
+use Rattle.alu.specs.declared.types.Check.{Check}
+use Rattle.alu.specs.declared.types.Check.the-variants.{Pass, Over, Short, Below}
+use Rattle.alu.specs.declared.types.Checked.{Checked}
+use Rattle.alu.specs.Bits.{bitsOf, low, digit, join, signed, fits, extended}
+use Rattle.alu.specs.ConditionCodes.{addFlags, subFlags, negFlags, keepZ, keepX, logicFlags}
+use Rattle.alu.specs.Answers.{accepted, figure, unlessByte, chkFigure, onlyWord}
 
 -- d + s + x and d - s - x in n bits; x is the X flag that goes in, or false
 unfoldable pub sum : (n s d : ℕ) → (x : Bool) → ℕ
@@ -52,3 +57,66 @@ abbrev pub negxOf : Size → (d : ℕ) → Flags → Answer
 negxOf size d f =
     let n = bitsOf size in
     let r = difference n d 0 (f .x) in accepted r (keepZ f (negFlags n d r)) (figure size 4 6)
+
+-- ADDQ, SUBQ on a data register: ADD and SUB with a figure of their own
+abbrev pub addqOf : Size → (s d : ℕ) → Flags → Answer
+addqOf size s d f = let a = addOf size s d f in accepted (a .result) (a .flags) (figure size 4 8)
+
+abbrev pub subqOf : Size → (s d : ℕ) → Flags → Answer
+subqOf size s d f = let a = subOf size s d f in accepted (a .result) (a .flags) (figure size 4 8)
+
+-- ADDQ, SUBQ on an address register: 32 bits are used, no flag is touched
+abbrev pub addqAddressOf : Size → (s d : ℕ) → Flags → Answer
+addqAddressOf size s d f = unlessByte size f (accepted (sum 32 s d false) f 8)
+
+abbrev pub subqAddressOf : Size → (s d : ℕ) → Flags → Answer
+subqAddressOf size s d f = unlessByte size f (accepted (difference 32 s d false) f 8)
+
+-- ADDA, SUBA: the source is sign-extended to 32 bits, 32 bits are used, no flag is touched
+abbrev pub addaOf : Size → (s d : ℕ) → Flags → Answer
+addaOf size s d f = unlessByte size f (accepted (sum 32 (extended (bitsOf size) 32 s) d false) f 8)
+
+abbrev pub subaOf : Size → (s d : ℕ) → Flags → Answer
+subaOf size s d f = unlessByte size f (accepted (difference 32 (extended (bitsOf size) 32 s) d false) f 8)
+
+-- CMPA: the same source; the flags of long CMP
+abbrev pub cmpaOf : Size → (s d : ℕ) → Flags → Answer
+cmpaOf size s d f = unlessByte size f (accepted d (cmpOf Long (extended (bitsOf size) 32 s) d f .flags) 6)
+
+-- CLR
+abbrev pub clrOf : Size → Flags → Answer
+clrOf size f = accepted 0 (logicFlags (bitsOf size) 0 f) (figure size 4 6)
+
+-- NOT: every bit is turned over
+abbrev pub notOf : Size → (d : ℕ) → Flags → Answer
+notOf size d f =
+    let n = bitsOf size in let r = 2 ^ n - 1 - low n d in accepted r (logicFlags n r f) (figure size 4 6)
+
+-- EXT: byte to word, the upper half kept; word to long. (Byte is refused.)
+abbrev pub extResult : Size → (d : ℕ) → ℕ
+extResult Byte d = d
+extResult Word d = join 16 (extended 8 16 d) (d / 2 ^ 16)
+extResult Long d = extended 16 32 d
+
+abbrev pub extOf : Size → (d : ℕ) → Flags → Answer
+extOf size d f =
+    let r = extResult size d in unlessByte size f (accepted r (logicFlags (bitsOf size) r f) 4)
+
+-- CHK's class, of n bits: the tests in document 01's order
+unfoldable pub checkOf : (n bound value : ℕ) → Check
+checkOf n bound value =
+    let b = signed n bound in
+    let v = signed n value in
+    cond (ltZ b v) Over
+    (cond (ltZ v (pos 0) && not (fits n (v -ℤ b))) Short
+    (cond (ltZ v (pos 0)) Below
+    Pass))
+
+-- CHK, of words. N is set if the value is below 0, Z, V and C are cleared, X is kept; the value comes back as it was handed in
+abbrev pub chkFlags : (value : ℕ) → Flags → Flags
+chkFlags value f = record { x = f .x; n = ltZ (signed 16 value) (pos 0); z = false; v = false; c = false }
+
+abbrev pub chkOf : Size → (bound value : ℕ) → Flags → Checked
+chkOf size bound value f =
+    let found = checkOf 16 bound value in
+    onlyWord size f (record { check = found; answer = accepted value (chkFlags value f) (chkFigure found) })

@@ -50,3 +50,7 @@ fits n z = leZ (negℤ (pos (2 ^ (n - 1)))) z && ltZ z (pos (2 ^ (n - 1)))
 -- the signed reading raised by 2 ^ (n - 1), so that it is a natural number: 0 stands for the least, 2 ^ n - 1 for the greatest
 unfoldable pub raised : (n x : ℕ) → ℕ
 raised n x = (x + 2 ^ (n - 1)) % 2 ^ n
+
+-- the low k bits sign-extended to n: copies of their top bit in the places from k up
+unfoldable pub extended : (k n x : ℕ) → ℕ
+extended k n x = low k x + digit (top k x) * (2 ^ n - 2 ^ k)

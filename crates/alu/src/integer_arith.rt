@@ -1,16 +1,23 @@
-// ADD, ADDX, SUB, SUBX, CMP, NEG and NEGX, on values and flags: integer_arith.rs of the crate m68k, in
-// its order. An operand may have bits above its size; they do not count.
+// The integer arithmetic of registers, on values and flags: integer_arith.rs of the crate m68k, in its
+// order. An operand may have bits above its size; they do not count.
 ghost use mathlib.Core.Path.{_≡_};
-ghost use Rattle.alu.specs.Bits.{bitsOf, top};
+ghost use Prim.Native.Nat.{_-_, _^_, _≤_};
+ghost use Rattle.alu.specs.Bits.{bitsOf, top, raised, extended};
 ghost use Rattle.alu.specs.ConditionCodes.{arithFlags, addFlags, subFlags, logicFlags, keepZ, keepX};
-ghost use Rattle.alu.specs.Arith.{sum, difference, addOf, addxOf, subOf, subxOf, cmpOf, negOf, negxOf};
+ghost use Rattle.alu.specs.Answers.{unlessByte, chkFigure, onlyWord};
+ghost use Rattle.alu.specs.Arith.{sum, difference, addOf, addaOf, addqOf, addqAddressOf, addxOf, subOf, subaOf, subqOf, subqAddressOf, subxOf};
+ghost use Rattle.alu.specs.Arith.{cmpOf, cmpaOf, clrOf, negOf, negxOf, notOf, extResult, extOf, checkOf, chkOf};
 use super::types::Answer;
+use super::types::Check;
+use super::types::Checked;
 use super::types::Flags;
 use super::types::Size;
+use super::types::Verdict;
 use super::types::accepted;
 use super::types::digit;
 use super::types::figure;
 use super::types::masked;
+use super::types::refused;
 use super::types::result_flags;
 use super::types::top;
 
@@ -52,6 +59,46 @@ fn keep_z(old: Flags, new: Flags) -> Flags
     }
 }
 
+// Half of 2 to the number of bits: the weight of the top bit.
+fn half(size: Size) -> u64
+    ensures { λ r. ⌜ (r ≡ 2 ^ (bitsOf size - 1)) × (r ≤ 2 ^ 31) ⌝ }
+{
+    match size {
+        Size::Byte => 0x80,
+        Size::Word => 0x8000,
+        Size::Long => 0x8000_0000,
+    }
+}
+
+// The signed number in the size's bits, raised by `half` so that it is not below 0.
+fn raised(size: Size, x: u32) -> u32
+    ensures { λ r. ⌜ r ≡ raised (bitsOf size) x ⌝ }
+{
+    let whole = x as u64 + half(size);
+    masked(size, whole)
+}
+
+// The low bits of x, as many as `from` has, sign-extended to as many as `to` has. All signed casts are
+// this. 2^32 keeps the signed number from going below 0.
+fn extend(from: Size, to: Size, x: u32) -> u32
+    requires { ⌜ bitsOf from ≤ bitsOf to ⌝ }
+    ensures { λ r. ⌜ r ≡ extended (bitsOf from) (bitsOf to) x ⌝ }
+{
+    let whole = 0x1_0000_0000 + raised(from, x) as u64 - half(from);
+    masked(to, whole)
+}
+
+// The answer, or the refusal of an operation that has no byte form.
+fn unless_byte(size: Size, flags: Flags, answer: Answer) -> Answer
+    ensures { λ r. ⌜ r ≡ unlessByte size flags answer ⌝ }
+{
+    match size {
+        Size::Byte => refused(Verdict::NoSuchSize, flags),
+        Size::Word => answer,
+        Size::Long => answer,
+    }
+}
+
 // ADD <ea>,Dn
 pub fn exec_add(size: Size, src: u32, dst: u32, flags: Flags) -> Answer
     ensures { λ r. ⌜ r ≡ addOf size src dst flags ⌝ }
@@ -59,6 +106,32 @@ pub fn exec_add(size: Size, src: u32, dst: u32, flags: Flags) -> Answer
     let result = add(size, src, dst, false);
     let new = set_add_flags(size, src, dst, result);
     accepted(result, new, 4)
+}
+
+// ADDA <ea>,An. A word is sign-extended; no flag is touched.
+pub fn exec_adda(size: Size, src: u32, dst: u32, flags: Flags) -> Answer
+    ensures { λ r. ⌜ r ≡ addaOf size src dst flags ⌝ }
+{
+    let source = extend(size, Size::Long, src);
+    let result = add(Size::Long, source, dst, false);
+    unless_byte(size, flags, accepted(result, flags, 8))
+}
+
+// ADDQ #<data>,Dn
+pub fn exec_addq(size: Size, src: u32, dst: u32, flags: Flags) -> Answer
+    ensures { λ r. ⌜ r ≡ addqOf size src dst flags ⌝ }
+{
+    let sum = exec_add(size, src, dst, flags);
+    let new = sum.flags;
+    accepted(sum.result, new, figure(size, 4, 8))
+}
+
+// ADDQ #<data>,An. All 32 bits are used at either size; no flag is touched.
+pub fn exec_addq_address(size: Size, src: u32, dst: u32, flags: Flags) -> Answer
+    ensures { λ r. ⌜ r ≡ addqAddressOf size src dst flags ⌝ }
+{
+    let result = add(Size::Long, src, dst, false);
+    unless_byte(size, flags, accepted(result, flags, 8))
 }
 
 // ADDX Dy,Dx
@@ -79,6 +152,32 @@ pub fn exec_sub(size: Size, src: u32, dst: u32, flags: Flags) -> Answer
     accepted(result, new, 4)
 }
 
+// SUBA <ea>,An
+pub fn exec_suba(size: Size, src: u32, dst: u32, flags: Flags) -> Answer
+    ensures { λ r. ⌜ r ≡ subaOf size src dst flags ⌝ }
+{
+    let source = extend(size, Size::Long, src);
+    let result = subtract(Size::Long, source, dst, false);
+    unless_byte(size, flags, accepted(result, flags, 8))
+}
+
+// SUBQ #<data>,Dn
+pub fn exec_subq(size: Size, src: u32, dst: u32, flags: Flags) -> Answer
+    ensures { λ r. ⌜ r ≡ subqOf size src dst flags ⌝ }
+{
+    let difference = exec_sub(size, src, dst, flags);
+    let new = difference.flags;
+    accepted(difference.result, new, figure(size, 4, 8))
+}
+
+// SUBQ #<data>,An
+pub fn exec_subq_address(size: Size, src: u32, dst: u32, flags: Flags) -> Answer
+    ensures { λ r. ⌜ r ≡ subqAddressOf size src dst flags ⌝ }
+{
+    let result = subtract(Size::Long, src, dst, false);
+    unless_byte(size, flags, accepted(result, flags, 8))
+}
+
 // SUBX Dy,Dx
 pub fn exec_subx(size: Size, src: u32, dst: u32, flags: Flags) -> Answer
     ensures { λ r. ⌜ r ≡ subxOf size src dst flags ⌝ }
@@ -97,6 +196,24 @@ pub fn exec_cmp(size: Size, src: u32, dst: u32, flags: Flags) -> Answer
     accepted(dst, new, 4)
 }
 
+// CMPA <ea>,An: long CMP with a word sign-extended.
+pub fn exec_cmpa(size: Size, src: u32, dst: u32, flags: Flags) -> Answer
+    ensures { λ r. ⌜ r ≡ cmpaOf size src dst flags ⌝ }
+{
+    let source = extend(size, Size::Long, src);
+    let long = exec_cmp(Size::Long, source, dst, flags);
+    let new = long.flags;
+    unless_byte(size, flags, accepted(dst, new, 6))
+}
+
+// CLR Dn
+pub fn exec_clr(size: Size, flags: Flags) -> Answer
+    ensures { λ r. ⌜ r ≡ clrOf size flags ⌝ }
+{
+    let new = set_logic_flags(size, 0, flags);
+    accepted(0, new, figure(size, 4, 6))
+}
+
 // NEG Dn: 0 - dst.
 pub fn exec_neg(size: Size, dst: u32, flags: Flags) -> Answer
     ensures { λ r. ⌜ r ≡ negOf size dst flags ⌝ }
@@ -113,6 +230,35 @@ pub fn exec_negx(size: Size, dst: u32, flags: Flags) -> Answer
     let result = subtract(size, dst, 0, flags.x);
     let new = keep_z(flags, set_sub_flags(size, dst, 0, result));
     accepted(result, new, figure(size, 4, 6))
+}
+
+// NOT Dn
+pub fn exec_not(size: Size, dst: u32, flags: Flags) -> Answer
+    ensures { λ r. ⌜ r ≡ notOf size dst flags ⌝ }
+{
+    let result = masked(size, !dst as u64);
+    let new = set_logic_flags(size, result, flags);
+    accepted(result, new, figure(size, 4, 6))
+}
+
+// What EXT makes of all 32 bits: a word's upper half is kept.
+fn ext_result(size: Size, dst: u32) -> u32
+    ensures { λ r. ⌜ r ≡ extResult size dst ⌝ }
+{
+    match size {
+        Size::Byte => dst,
+        Size::Word => dst / 0x1_0000 * 0x1_0000 + extend(Size::Byte, Size::Word, dst),
+        Size::Long => extend(Size::Word, Size::Long, dst),
+    }
+}
+
+// EXT Dn
+pub fn exec_ext(size: Size, dst: u32, flags: Flags) -> Answer
+    ensures { λ r. ⌜ r ≡ extOf size dst flags ⌝ }
+{
+    let result = ext_result(size, dst);
+    let new = set_logic_flags(size, result, flags);
+    unless_byte(size, flags, accepted(result, new, 4))
 }
 
 // The flags after `result` = `dst` + `src`, with or without X. V: both operands have the one sign and
@@ -154,4 +300,72 @@ pub fn set_logic_flags(size: Size, result: u32, flags: Flags) -> Flags
     ensures { λ r. ⌜ r ≡ logicFlags (bitsOf size) result flags ⌝ }
 {
     result_flags(size, result, flags.x, false, false)
+}
+
+// CHK's comparisons of signed words, in the 68000's order: the bound first. Short: the difference
+// value - bound, which the 68000 forms for it, overflows.
+fn check(bound: u32, value: u32) -> Check
+    ensures { λ r. ⌜ r ≡ checkOf 16 bound value ⌝ }
+{
+    let b = raised(Size::Word, bound);
+    let v = raised(Size::Word, value);
+    let below = v < 0x8000;
+    let far = v + 0x8000 < b;
+    if b < v {
+        Check::Over
+    } else if below & far {
+        Check::Short
+    } else if below {
+        Check::Below
+    } else {
+        Check::Pass
+    }
+}
+
+// CHK's figure; of a trap it is the internal clocks.
+fn chk_figure(check: Check) -> u32
+    ensures { λ r. ⌜ r ≡ chkFigure check ⌝ }
+{
+    match check {
+        Check::Pass => 10,
+        Check::Over => 8,
+        Check::Short => 8,
+        Check::Below => 10,
+    }
+}
+
+// The answer, or the refusal: CHK has the word form alone.
+fn only_word(size: Size, flags: Flags, checked: Checked) -> Checked
+    ensures { λ r. ⌜ r ≡ onlyWord size flags checked ⌝ }
+{
+    match size {
+        Size::Byte => Checked {
+            check: Check::Pass,
+            answer: refused(Verdict::NoSuchSize, flags),
+        },
+        Size::Word => checked,
+        Size::Long => Checked {
+            check: Check::Pass,
+            answer: refused(Verdict::NoSuchSize, flags),
+        },
+    }
+}
+
+// CHK <ea>,Dn: whether the word in Dn is below 0 or above the bound.
+pub fn exec_chk(size: Size, bound: u32, value: u32, flags: Flags) -> Checked
+    ensures { λ r. ⌜ r ≡ chkOf size bound value flags ⌝ }
+{
+    let found = check(bound, value);
+    let new = Flags {
+        x: flags.x,
+        n: top(Size::Word, value),
+        z: false,
+        v: false,
+        c: false,
+    };
+    let checked = Checked {
+        check: found,
+        answer: accepted(value, new, chk_figure(found)),
+    };
+    only_word(size, flags, checked)
 }

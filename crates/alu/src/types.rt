@@ -3,7 +3,7 @@
 ghost use mathlib.Core.Path.{_≡_};
 ghost use Rattle.alu.specs.Bits.{bitsOf, low, top, digit};
 ghost use Rattle.alu.specs.ConditionCodes.{resultFlags};
-ghost use Rattle.alu.specs.Answers.{numberOf, accepted, refused, figure};
+ghost use Rattle.alu.specs.Answers.{numberOf, classOf, accepted, refused, figure};
 
 pub enum Size {
     Byte,
@@ -35,6 +35,20 @@ pub struct Answer {
     pub clocks: u32,
 }
 
+// What CHK finds. Over, Short and Below are traps.
+pub enum Check {
+    Pass,
+    Over,
+    Short,
+    Below,
+}
+
+// What CHK hands back.
+pub struct Checked {
+    pub check: Check,
+    pub answer: Answer,
+}
+
 // Document 01's number of a refusal, 0 for none.
 pub fn number(verdict: Verdict) -> u32
     ensures { λ r. ⌜ r ≡ numberOf verdict ⌝ }
@@ -43,6 +57,18 @@ pub fn number(verdict: Verdict) -> u32
         Verdict::Accepted => 0,
         Verdict::BadCount => 1,
         Verdict::NoSuchSize => 2,
+    }
+}
+
+// A number for each of CHK's classes, 0 where it doesn't trap.
+pub fn class(check: Check) -> u32
+    ensures { λ r. ⌜ r ≡ classOf check ⌝ }
+{
+    match check {
+        Check::Pass => 0,
+        Check::Over => 1,
+        Check::Short => 2,
+        Check::Below => 3,
     }
 }
 

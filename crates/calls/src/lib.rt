@@ -6,11 +6,22 @@ ghost use Rattle.alu.specs.Bits.{digit};
 ghost use Rattle.alu.specs.Answers.{numberOf};
 ghost use Rattle.calls.specs.Packed.{sizeOf, flagsOf, ccrOf, packed, answerOf, callOf};
 use alu::integer_arith::exec_add;
+use alu::integer_arith::exec_adda;
+use alu::integer_arith::exec_addq;
+use alu::integer_arith::exec_addq_address;
 use alu::integer_arith::exec_addx;
+use alu::integer_arith::exec_chk;
+use alu::integer_arith::exec_clr;
 use alu::integer_arith::exec_cmp;
+use alu::integer_arith::exec_cmpa;
+use alu::integer_arith::exec_ext;
 use alu::integer_arith::exec_neg;
 use alu::integer_arith::exec_negx;
+use alu::integer_arith::exec_not;
 use alu::integer_arith::exec_sub;
+use alu::integer_arith::exec_suba;
+use alu::integer_arith::exec_subq;
+use alu::integer_arith::exec_subq_address;
 use alu::integer_arith::exec_subx;
 use alu::shift_rotate::exec_asl;
 use alu::shift_rotate::exec_asr;
@@ -21,9 +32,11 @@ use alu::shift_rotate::exec_ror;
 use alu::shift_rotate::exec_roxl;
 use alu::shift_rotate::exec_roxr;
 use alu::types::Answer;
+use alu::types::Checked;
 use alu::types::Flags;
 use alu::types::Size;
 use alu::types::Verdict;
+use alu::types::class;
 use alu::types::number;
 use alu::types::refused;
 
@@ -86,6 +99,15 @@ fn pack(a: Answer) -> u64
         + number_of(verdict) * 0x1_0000_0000_0000
 }
 
+// CHK's class goes above the refusal number.
+fn pack_checked(c: Checked) -> u64
+    ensures { λ r. ⌜ r ≡ packedChecked c ⌝ }
+{
+    let check = c.check;
+    let answer = c.answer;
+    pack(answer) + class(check) as u64 * 0x10_0000_0000_0000
+}
+
 // The operation of that number, its answer packed. Each arm unpacks and packs by itself: the compiler then leaves out
 // what an operation does not need.
 fn answer(op: u8, size: Size, src: u32, dst: u32, ccr: u8) -> u64
@@ -97,8 +119,18 @@ fn answer(op: u8, size: Size, src: u32, dst: u32, ccr: u8) -> u64
         0x02 => pack(exec_cmp(size, src, dst, flags_of(ccr))),
         0x03 => pack(exec_addx(size, src, dst, flags_of(ccr))),
         0x04 => pack(exec_subx(size, src, dst, flags_of(ccr))),
+        0x05 => pack(exec_adda(size, src, dst, flags_of(ccr))),
+        0x06 => pack(exec_suba(size, src, dst, flags_of(ccr))),
+        0x07 => pack(exec_cmpa(size, src, dst, flags_of(ccr))),
+        0x08 => pack(exec_addq(size, src, dst, flags_of(ccr))),
+        0x09 => pack(exec_subq(size, src, dst, flags_of(ccr))),
+        0x0a => pack(exec_addq_address(size, src, dst, flags_of(ccr))),
+        0x0b => pack(exec_subq_address(size, src, dst, flags_of(ccr))),
+        0x0c => pack(exec_clr(size, flags_of(ccr))),
         0x0d => pack(exec_neg(size, dst, flags_of(ccr))),
         0x0e => pack(exec_negx(size, dst, flags_of(ccr))),
+        0x0f => pack(exec_not(size, dst, flags_of(ccr))),
+        0x10 => pack(exec_ext(size, dst, flags_of(ccr))),
         0x11 => pack(exec_asl(size, src, dst, flags_of(ccr))),
         0x12 => pack(exec_asr(size, src, dst, flags_of(ccr))),
         0x13 => pack(exec_lsl(size, src, dst, flags_of(ccr))),
@@ -107,6 +139,7 @@ fn answer(op: u8, size: Size, src: u32, dst: u32, ccr: u8) -> u64
         0x16 => pack(exec_ror(size, src, dst, flags_of(ccr))),
         0x17 => pack(exec_roxl(size, src, dst, flags_of(ccr))),
         0x18 => pack(exec_roxr(size, src, dst, flags_of(ccr))),
+        0x1d => pack_checked(exec_chk(size, src, dst, flags_of(ccr))),
         _ => pack(refused(Verdict::NoSuchSize, flags_of(ccr))),
     }
 }

@@ -1,0 +1,15 @@
+-- `exec_chk` meets its contract: the top bit is the sign.
+-- Assumes nothing.
+use borrow.Author.Needs.{needs}
+use lib.Dec.{lit<}
+use Rattle.alu.proofs.Integers.{signed-sign}
+use Rattle.alu.proofs.integer_arith.exec_chk.Statement.{statement}
+use Rattle.alu.proofs.integer_arith.exec_chk.Tie as tie
+
+returns : tie.Need-returns
+returns c =
+    let a = c .before .before .before .before .before .args in
+    cc (signed-sign 16 (lit< tt) (a .value))
+
+pub exec-chk-spec : {M : Type 1} → statement M
+exec-chk-spec = tie.close (tie.spec (search needs) (search needs) (search needs) (search needs) (search needs) returns)
