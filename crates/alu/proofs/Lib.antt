@@ -11,6 +11,7 @@ pub mod Extension
 pub mod Checks
 pub mod Turns
 pub mod Rings
+pub mod Complement
 mod Overflow
 pub mod Counts
 pub mod Products

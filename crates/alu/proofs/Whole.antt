@@ -1,13 +1,13 @@
--- The sum, the difference and the complement in n bits, taken of whole operands and cut once at the end.
+-- The sum and the difference in n bits, taken of whole operands and cut once at the end.
 -- Assumes nothing.
 use mathlib.Core.Path.{_≡_, _∙_, ap, sym}
-use mathlib.Core.Bool.{Bool, true}
+use mathlib.Core.Bool.{Bool}
 use Prim.Native.Nat.{ℕ, _+_, _-_, _*_, _/_, _%_, _^_, _≤_, _<_}
-use native.Mathlib.Nat.{mod-lt, mod-eq-of-lt, mod-add-mod, div-add-mod', div-lt-iff-lt-mul, mul-add-mod-self-right}
+use native.Mathlib.Nat.{mod-lt, mod-add-mod, div-add-mod', div-lt-iff-lt-mul, mul-add-mod-self-right}
 use native.Mathlib.Omega.{arith}
 use lib.Pow.{pow-pos, pow-add}
 use Rattle.alu.specs.declared.types.Size.{Size}
-use Rattle.alu.specs.Bits.{bitsOf, low, digit}
+use Rattle.alu.specs.Bits.{bitsOf, digit}
 use Rattle.alu.specs.Arith.{sum, difference}
 use Rattle.alu.proofs.Bounds.{digit-le, bits-le}
 
@@ -40,16 +40,3 @@ difference-whole size s d x s-low =
     let split : 2 ^ 32 ≡ 2 ^ (32 - n) * 2 ^ n = ap (λ (e : ℕ). 2 ^ e) parts ∙ pow-add 2 (32 - n) n in
     let s-low′ : s < 2 ^ (32 - n) * 2 ^ n = rw split at s-low in
     sym (rw split (borrowed (2 ^ n) (2 ^ (32 - n)) s d (digit x) (pow-pos n) s-low′ (digit-le x)))
-
--- NOT is 0 - d - 1
-pub complement-difference : (n d : ℕ) → 2 ^ n - 1 - low n d ≡ difference n d 0 true
-unfolding difference
-complement-difference n d =
-    let none : 0 % 2 ^ n ≡ 0 = mod-eq-of-lt (pow-pos n) in
-    let whole : 2 ^ n + 0 % 2 ^ n - (low n d + 1) ≡ 2 ^ n - 1 - low n d = rw none (omega arith) in
-    sym (rw whole (mod-eq-of-lt (omega (arith, pow-pos n))))
-
-pub complement-whole : (size : Size) (d : ℕ) → d < 2 ^ 32 → 2 ^ bitsOf size - 1 - low (bitsOf size) d ≡ (2 ^ 32 - 1 - d) % 2 ^ bitsOf size
-complement-whole size d d-low =
-    let one : 2 ^ 32 + 0 - (d + 1) ≡ 2 ^ 32 - 1 - d = omega arith in
-    complement-difference (bitsOf size) d ∙ difference-whole size d 0 true d-low ∙ ap (λ (t : ℕ). t % 2 ^ bitsOf size) one

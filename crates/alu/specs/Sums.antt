@@ -1,5 +1,5 @@
 -- Document 01, "Proved sums", as one table: an operation for any incoming flags, and what document 01 says of its answer. Sums 1 to
--- 10; the others join with their operations.
+-- 11; the last needs a run.
 -- `proofs/Sums.antt` has the one statement, that every row holds. Assumes nothing.
 use Prim.Native.Nat.{ℕ}
 use mathlib.Core.Bool.{Bool, true, false, not, _&&_, Bool·beq}
@@ -8,9 +8,12 @@ use lib.Dec.{eqb}
 use Rattle.alu.specs.declared.types.Size.the-variants.{Byte, Word, Long}
 use Rattle.alu.specs.declared.types.Flags.{Flags}
 use Rattle.alu.specs.declared.types.Answer.{Answer}
+use Rattle.alu.specs.declared.types.Check.{Check}
+use Rattle.alu.specs.declared.types.Check.the-variants.{Pass, Over, Short, Below}
+use Rattle.alu.specs.declared.types.Checked.{Checked}
 use Rattle.alu.specs.declared.shift_rotate.ShiftOp.the-variants.{Asl, Asr, Lsl, Rol, Roxl}
-use Rattle.alu.specs.Answers.{numberOf}
-use Rattle.alu.specs.Arith.{addOf, addxOf, subxOf, negOf}
+use Rattle.alu.specs.Answers.{numberOf, classOf}
+use Rattle.alu.specs.Arith.{addOf, addxOf, subxOf, negOf, chkOf}
 use Rattle.alu.specs.Shifts.{shiftOf}
 
 -- what a row says of a flag: set, clear, as it was before the operation, or anything
@@ -20,10 +23,12 @@ pub data Said : Type 0 where
   same : Said
   any : Said
 
--- a row: an operation on the flags before; its result; X N Z V C after. `givesIn` has the clock figure too
+-- a row: an operation on the flags before; its result; X N Z V C after. `givesIn` has the clock figure too; `finds` has CHK's class, and of the
+-- flags N alone
 pub data Row : Type 0 where
   gives : (Flags → Answer) → (result : ℕ) → (x n z v c : Said) → Row
   givesIn : (clocks : ℕ) → (Flags → Answer) → (result : ℕ) → (x n z v c : Said) → Row
+  finds : (Flags → Checked) → Check → (n : Said) → Row
 
 -- the flags with X set
 abbrev withX : Flags → Flags
@@ -44,7 +49,12 @@ table =
     gives (shiftOf Lsl Byte 0 0x1234) 0x1234 any clear clear clear clear ∷  -- 8, by 0
     gives (shiftOf Lsl Byte 64 0x1234) 0x1234 any clear clear clear clear ∷  -- 8, by 64
     givesIn 22 (shiftOf Rol Byte 8 0x81) 0x81 any set any any set ∷  -- 9
-    givesIn 40 (λ f. shiftOf Roxl Word 17 0x8001 (withX f)) 0x8001 set set any any set ∷ []  -- 10
+    givesIn 40 (λ f. shiftOf Roxl Word 17 0x8001 (withX f)) 0x8001 set set any any set ∷  -- 10
+    -- CHK: bound, then value; class, then N
+    finds (chkOf Word 0x0001 0x8000) Short any ∷  -- 11
+    finds (chkOf Word 0x0000 0x8000) Below any ∷  -- 11, bound 0000
+    finds (chkOf Word 0xfffe 0xffff) Over set ∷  -- 11, FFFF bound FFFE
+    finds (chkOf Word 5 5) Pass any ∷ []  -- 11, 5 bound 5
 
 -- `after` is what a row says of a flag that was `before`
 abbrev pub meets : Said → (before after : Bool) → Bool
@@ -60,9 +70,15 @@ answers a f result x n z v c =
     eqb (numberOf (a .verdict)) 0 && eqb (a .result) result && meets x (f .x) (g .x) && meets n (f .n) (g .n) && meets z (f .z) (g .z) &&
     meets v (f .v) (g .v) && meets c (f .c) (g .c)
 
+-- an accepted answer with that class and that N
+unfoldable pub found : Checked → (before : Flags) → Check → (n : Said) → Bool
+found k f class n =
+    eqb (numberOf (k .answer .verdict)) 0 && eqb (classOf (k .check)) (classOf class) && meets n (f .n) (k .answer .flags .n)
+
 unfoldable pub holdsAt : Row → Flags → Bool
 holdsAt (gives operation result x n z v c) f = answers (operation f) f result x n z v c
 holdsAt (givesIn clocks operation result x n z v c) f = eqb (operation f .clocks) clocks && answers (operation f) f result x n z v c
+holdsAt (finds operation class n) f = found (operation f) f class n
 
 -- a row holds for each of the 32 settings of the flags before
 unfoldable pub atBoth : (Bool → Bool) → Bool

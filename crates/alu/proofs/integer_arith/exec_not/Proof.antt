@@ -3,7 +3,7 @@
 use native.Mathlib.Omega.{arith}
 use borrow.Author.Needs.{needs}
 use Prim.Native.Nat.{_<_, _^_}
-use Rattle.alu.proofs.Whole.{complement-whole}
+use Rattle.alu.proofs.Complement.{complement-whole}
 use Rattle.alu.proofs.integer_arith.exec_not.Statement.{statement}
 use Rattle.alu.proofs.integer_arith.exec_not.Tie as tie
 
