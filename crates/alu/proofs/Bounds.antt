@@ -9,8 +9,10 @@ use Rattle.alu.specs.declared.types.Size.{Size}
 use Rattle.alu.specs.declared.types.Size.the-variants.{Byte, Word, Long}
 use Rattle.alu.specs.declared.types.Verdict.{Verdict}
 use Rattle.alu.specs.declared.types.Verdict.the-variants.{Accepted, BadCount, NoSuchSize}
+use Rattle.alu.specs.declared.types.Check.{Check}
+use Rattle.alu.specs.declared.types.Check.the-variants.{Pass, Over, Short, Below}
 use Rattle.alu.specs.Bits.{bitsOf, low, digit, raised}
-use Rattle.alu.specs.Answers.{numberOf, figure}
+use Rattle.alu.specs.Answers.{numberOf, classOf, figure}
 
 -- a size has from 1 to 32 bits
 pub bits-pos : (size : Size) → 0 < bitsOf size
@@ -28,6 +30,13 @@ pub number-le : (verdict : Verdict) → numberOf verdict ≤ 2
 number-le Accepted = lit≤ tt
 number-le BadCount = lit≤ tt
 number-le NoSuchSize = lit≤ tt
+
+-- CHK's classes are numbered from 0 to 3
+pub class-le : (check : Check) → classOf check ≤ 3
+class-le Pass = lit≤ tt
+class-le Over = lit≤ tt
+class-le Short = lit≤ tt
+class-le Below = lit≤ tt
 
 pub digit-le : (b : Bool) → digit b ≤ 1
 digit-le true = lit≤ tt

@@ -3,17 +3,17 @@
 use Prim.Native.Nat.{ℕ}
 use mathlib.Core.Path.{_≡_, ap, _∙_}
 use Rattle.alu.specs.declared.types.Flags.{Flags}
-use Rattle.alu.specs.declared.types.Answer.{Answer}
+use Rattle.alu.specs.declared.types.Checked.{Checked}
 use Rattle.calls.specs.declared.Found.{Found}
 use Rattle.calls.specs.Packed.{packed}
 
 -- the operation whose number is `key`
 pub answered :
-    (of : ℕ → Flags → Answer) (op key : ℕ) {r : ℕ} {a : Answer} {flags flags′ : Flags} →
-    op ≡ key → flags ≡ flags′ → a ≡ of key flags → r ≡ packed a → r ≡ packed (of op flags′)
+    (of : ℕ → Flags → Checked) (op key : ℕ) {r : ℕ} {k : Checked} {flags flags′ : Flags} →
+    op ≡ key → flags ≡ flags′ → k ≡ of key flags → r ≡ packed k → r ≡ packed (of op flags′)
 answered of op key is f done gave = rw is (gave ∙ ap packed (done ∙ ap (of key) f))
 
 -- a size by its number, which may name none
 pub called :
-    (of : Found → Answer) {r : ℕ} {size size′ found : Found} → found ≡ size → found ≡ size′ → r ≡ packed (of size) → r ≡ packed (of size′)
+    (of : Found → Checked) {r : ℕ} {size size′ found : Found} → found ≡ size → found ≡ size′ → r ≡ packed (of size) → r ≡ packed (of size′)
 called of is z gave = rw (← z, is) gave

@@ -8,12 +8,15 @@ use Rattle.alu.specs.declared.types.Size.the-variants.{Byte, Word, Long}
 use Rattle.alu.specs.declared.types.Flags.{Flags}
 use Rattle.alu.specs.declared.types.Verdict.the-variants.{NoSuchSize}
 use Rattle.alu.specs.declared.types.Answer.{Answer}
+use Rattle.alu.specs.declared.types.Check.the-variants.{Pass}
+use Rattle.alu.specs.declared.types.Checked.{Checked}
 use Rattle.calls.specs.declared.Found.{Found}
 use Rattle.calls.specs.declared.Found.the-variants.{Is, NoSize}
 use Rattle.alu.specs.Bits.{bit, digit}
-use Rattle.alu.specs.Answers.{numberOf, refused}
+use Rattle.alu.specs.Answers.{numberOf, classOf, refused}
 use Rattle.alu.specs.declared.shift_rotate.ShiftOp.the-variants.{Asl, Asr, Lsl, Lsr, Rol, Ror, Roxl, Roxr}
-use Rattle.alu.specs.Arith.{addOf, addxOf, subOf, subxOf, cmpOf, negOf, negxOf}
+use Rattle.alu.specs.Arith.{addOf, addxOf, addaOf, addqOf, addqAddressOf, subOf, subxOf, subaOf, subqOf, subqAddressOf, cmpOf, cmpaOf}
+use Rattle.alu.specs.Arith.{clrOf, negOf, negxOf, notOf, extOf, chkOf}
 use Rattle.alu.specs.Shifts.{shiftOf}
 
 -- the sizes by number: 0 byte, 1 word, 2 long; a greater number names none
@@ -28,35 +31,52 @@ abbrev pub ccrOf : Flags → ℕ
 ccrOf f = digit (f .x) * 16 + digit (f .n) * 8 + digit (f .z) * 4 + digit (f .v) * 2 + digit (f .c)
 
 -- the answer: the result in bits 0 to 31, the flags from bit 32, the low 8 bits of the clock figure from bit 40 (every figure of document 01 is
--- below 256), the refusal number from bit 48
-abbrev pub packed : Answer → ℕ
-packed a = a .result + ccrOf (a .flags) * 2 ^ 32 + a .clocks % 256 * 2 ^ 40 + numberOf (a .verdict) * 2 ^ 48
+-- below 256), the refusal number from bit 48, CHK's class from bit 52
+abbrev pub packed : Checked → ℕ
+packed k =
+    let a = k .answer in
+    a .result + ccrOf (a .flags) * 2 ^ 32 + a .clocks % 256 * 2 ^ 40 + numberOf (a .verdict) * 2 ^ 48 + classOf (k .check) * 2 ^ 52
 
--- the operations by number, as document 01's forms table has them; the gaps are for operations to come. Of a shift s is the count and d the value;
--- where there is no source s is not looked at. A number that names no operation is refused with 2
-unfoldable pub answerOf : (op : ℕ) → Size → (s d : ℕ) → Flags → Answer
+-- the answer of an operation other than CHK: no class, which is Pass's 0
+abbrev pub plain : Answer → Checked
+plain a = record { check = Pass; answer = a }
+
+-- the operations by number, as document 01's forms table has them; the gap is for operations to come. Of a shift s is the count and d the value, of
+-- CHK the bound and the value; where there is no source s is not looked at. A number that names no operation is refused with 2
+unfoldable pub answerOf : (op : ℕ) → Size → (s d : ℕ) → Flags → Checked
 answerOf op size s d f =
-    cond (eqb op 0x00) (addOf size s d f)
-    (cond (eqb op 0x01) (subOf size s d f)
-    (cond (eqb op 0x02) (cmpOf size s d f)
-    (cond (eqb op 0x03) (addxOf size s d f)
-    (cond (eqb op 0x04) (subxOf size s d f)
-    (cond (eqb op 0x0d) (negOf size d f)
-    (cond (eqb op 0x0e) (negxOf size d f)
-    (cond (eqb op 0x11) (shiftOf Asl size s d f)
-    (cond (eqb op 0x12) (shiftOf Asr size s d f)
-    (cond (eqb op 0x13) (shiftOf Lsl size s d f)
-    (cond (eqb op 0x14) (shiftOf Lsr size s d f)
-    (cond (eqb op 0x15) (shiftOf Rol size s d f)
-    (cond (eqb op 0x16) (shiftOf Ror size s d f)
-    (cond (eqb op 0x17) (shiftOf Roxl size s d f)
-    (cond (eqb op 0x18) (shiftOf Roxr size s d f)
-    (refused NoSuchSize f)))))))))))))))
+    cond (eqb op 0x00) (plain (addOf size s d f))
+    (cond (eqb op 0x01) (plain (subOf size s d f))
+    (cond (eqb op 0x02) (plain (cmpOf size s d f))
+    (cond (eqb op 0x03) (plain (addxOf size s d f))
+    (cond (eqb op 0x04) (plain (subxOf size s d f))
+    (cond (eqb op 0x05) (plain (addaOf size s d f))
+    (cond (eqb op 0x06) (plain (subaOf size s d f))
+    (cond (eqb op 0x07) (plain (cmpaOf size s d f))
+    (cond (eqb op 0x08) (plain (addqOf size s d f))
+    (cond (eqb op 0x09) (plain (subqOf size s d f))
+    (cond (eqb op 0x0a) (plain (addqAddressOf size s d f))
+    (cond (eqb op 0x0b) (plain (subqAddressOf size s d f))
+    (cond (eqb op 0x0c) (plain (clrOf size f))
+    (cond (eqb op 0x0d) (plain (negOf size d f))
+    (cond (eqb op 0x0e) (plain (negxOf size d f))
+    (cond (eqb op 0x0f) (plain (notOf size d f))
+    (cond (eqb op 0x10) (plain (extOf size d f))
+    (cond (eqb op 0x11) (plain (shiftOf Asl size s d f))
+    (cond (eqb op 0x12) (plain (shiftOf Asr size s d f))
+    (cond (eqb op 0x13) (plain (shiftOf Lsl size s d f))
+    (cond (eqb op 0x14) (plain (shiftOf Lsr size s d f))
+    (cond (eqb op 0x15) (plain (shiftOf Rol size s d f))
+    (cond (eqb op 0x16) (plain (shiftOf Ror size s d f))
+    (cond (eqb op 0x17) (plain (shiftOf Roxl size s d f))
+    (cond (eqb op 0x18) (plain (shiftOf Roxr size s d f))
+    (cond (eqb op 0x1d) (chkOf size s d f)
+    (plain (refused NoSuchSize f)))))))))))))))))))))))))))
 
 -- the same where the size may be none: refused too
-abbrev pub askedOf : (op : ℕ) → Found → (s d : ℕ) → Flags → Answer
+abbrev pub askedOf : (op : ℕ) → Found → (s d : ℕ) → Flags → Checked
 askedOf op (Is size) s d f = answerOf op size s d f
-askedOf op NoSize s d f = refused NoSuchSize f
+askedOf op NoSize s d f = plain (refused NoSuchSize f)
 
 abbrev pub callOf : (op size s d ccr : ℕ) → ℕ
 callOf op size s d ccr = packed (askedOf op (sizeOf size) s d (flagsOf ccr))

@@ -1,10 +1,10 @@
 // The operations for Rust and C, packed: every argument and the answer are numbers, laid out as
 // `specs/Packed.antt` says. A number that names no operation or no size is refused with 2.
 ghost use mathlib.Core.Path.{_≡_};
-ghost use Prim.Native.Nat.{_*_, _≤_};
+ghost use Prim.Native.Nat.{_*_, _^_, _<_, _≤_};
 ghost use Rattle.alu.specs.Bits.{digit};
-ghost use Rattle.alu.specs.Answers.{numberOf};
-ghost use Rattle.calls.specs.Packed.{sizeOf, flagsOf, ccrOf, packed, answerOf, callOf};
+ghost use Rattle.alu.specs.Answers.{numberOf, classOf};
+ghost use Rattle.calls.specs.Packed.{sizeOf, flagsOf, ccrOf, packed, plain, answerOf, callOf};
 use alu::integer_arith::exec_add;
 use alu::integer_arith::exec_adda;
 use alu::integer_arith::exec_addq;
@@ -32,6 +32,7 @@ use alu::shift_rotate::exec_ror;
 use alu::shift_rotate::exec_roxl;
 use alu::shift_rotate::exec_roxr;
 use alu::types::Answer;
+use alu::types::Check;
 use alu::types::Checked;
 use alu::types::Flags;
 use alu::types::Size;
@@ -88,8 +89,14 @@ fn number_of(verdict: Verdict) -> u64
     number(verdict) as u64
 }
 
+fn class_of(check: Check) -> u64
+    ensures { λ r. ⌜ (r ≡ classOf check) × (r ≤ 3) ⌝ }
+{
+    class(check) as u64
+}
+
 fn pack(a: Answer) -> u64
-    ensures { λ r. ⌜ r ≡ packed a ⌝ }
+    ensures { λ r. ⌜ (r ≡ packed (plain a)) × (r < 2 ^ 52) ⌝ }
 {
     let flags = a.flags;
     let verdict = a.verdict;
@@ -99,13 +106,13 @@ fn pack(a: Answer) -> u64
         + number_of(verdict) * 0x1_0000_0000_0000
 }
 
-// CHK's class goes above the refusal number.
-fn pack_checked(c: Checked) -> u64
-    ensures { λ r. ⌜ r ≡ packedChecked c ⌝ }
+// CHK has its class beside the answer.
+fn pack_checked(checked: Checked) -> u64
+    ensures { λ r. ⌜ r ≡ packed checked ⌝ }
 {
-    let check = c.check;
-    let answer = c.answer;
-    pack(answer) + class(check) as u64 * 0x10_0000_0000_0000
+    let check = checked.check;
+    let answer = checked.answer;
+    pack(answer) + class_of(check) * 0x10_0000_0000_0000
 }
 
 // The operation of that number, its answer packed. Each arm unpacks and packs by itself: the compiler then leaves out

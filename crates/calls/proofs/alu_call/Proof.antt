@@ -4,7 +4,7 @@ use mathlib.Core.Path.{ap, _∙_}
 use borrow.Author.Needs.{needs}
 use Rattle.alu.specs.declared.types.Verdict.the-variants.{NoSuchSize}
 use Rattle.alu.specs.Answers.{refused}
-use Rattle.calls.specs.Packed.{askedOf, packed, flagsOf}
+use Rattle.calls.specs.Packed.{askedOf, packed, plain, flagsOf}
 use Rattle.calls.proofs.Called.{called}
 use Rattle.calls.proofs.alu_call.Statement.{statement}
 use Rattle.calls.proofs.alu_call.Tie as tie
@@ -15,7 +15,7 @@ returns c =
     let at-size = at-told .before .before in
     let a = at-size .before .args in
     called (λ z. askedOf (a .op) z (a .src) (a .dst) (flagsOf (a .ccr))) (at-told .enum-told .given .1) (at-size .size-of .ensures)
-    (c .pack .ensures ∙ ap packed (c .before .refused .ensures ∙ ap (refused NoSuchSize) (c .before .before .flags-of .ensures)))
+    (c .pack .ensures .0 ∙ ap (λ x. packed (plain x)) (c .before .refused .ensures ∙ ap (refused NoSuchSize) (c .before .before .flags-of .ensures)))
 
 returns-2 : tie.Need-returns-2
 returns-2 c =
