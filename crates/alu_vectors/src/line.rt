@@ -2,7 +2,8 @@
 //
 //   op 2 | size 1 | source 8 | destination 8 | flags before 2 | result 8 | flags 2 | figure 2 | class 1
 //
-// The figure FF stands for none: the crate returns no figure of ADDX and SUBX.
+// The figure FF stands for none: the crate returns no figure of ADDX and SUBX. The class is CHK's, 0 of
+// the others; 1 stands for Over or Short, which the crate doesn't tell apart.
 ghost use Prim.Native.Nat.{_+_, _<_, _≤_};
 
 pub(crate) struct Line {
@@ -14,6 +15,7 @@ pub(crate) struct Line {
     pub result: u32,
     pub flags: u32,
     pub figure: u32,
+    pub class: u32,
 }
 
 // A hexadecimal digit's value. Of another byte it is some number, and the line then fails.
@@ -49,6 +51,7 @@ pub(crate) fn read(line: &[u8; 43]) -> Line {
         result: eight(line, 26),
         flags: two(line, 35),
         figure: two(line, 38),
+        class: digit(line[41]),
     }
 }
 
@@ -57,16 +60,18 @@ pub(crate) fn answer(line: Line) -> u64 {
     calls::alu_call(line.op, line.size, line.src, line.dst, line.ccr)
 }
 
-// Whether that is the line's result, flags and figure, and no refusal.
+// Whether that is the line's result, flags, figure and class, and no refusal.
 pub(crate) fn agrees(line: Line, got: u64) -> bool {
-    let figure = got / 0x100_0000_0000;
-    let rest = got % 0x100_0000_0000;
-    let flags = rest / 0x1_0000_0000;
-    let result = rest % 0x1_0000_0000;
-    let same_figure = if line.figure == 0xff {
-        figure < 0x100
-    } else {
-        figure == line.figure as u64
-    };
-    same_figure && flags == line.flags as u64 && result == line.result as u64
+    let class = got / 0x10_0000_0000_0000;
+    let refusal = got / 0x1_0000_0000_0000 % 0x10;
+    let figure = got / 0x100_0000_0000 % 0x100;
+    let flags = got / 0x1_0000_0000 % 0x100;
+    let result = got % 0x1_0000_0000;
+    let same_class = class == line.class as u64 || class == 2 && line.class == 1;
+    let same_figure = figure == line.figure as u64 || line.figure == 0xff;
+    refusal == 0
+        && same_class
+        && same_figure
+        && flags == line.flags as u64
+        && result == line.result as u64
 }

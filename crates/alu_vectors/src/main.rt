@@ -84,8 +84,18 @@ fn main() {
     replay(b"cmp.tsv");
     replay(b"addx.tsv");
     replay(b"subx.tsv");
+    replay(b"adda.tsv");
+    replay(b"suba.tsv");
+    replay(b"cmpa.tsv");
+    replay(b"addq.tsv");
+    replay(b"subq.tsv");
+    replay(b"addqa.tsv");
+    replay(b"subqa.tsv");
+    replay(b"clr.tsv");
     replay(b"neg.tsv");
     replay(b"negx.tsv");
+    replay(b"not.tsv");
+    replay(b"ext.tsv");
     replay(b"asl.tsv");
     replay(b"asr.tsv");
     replay(b"lsl.tsv");
@@ -94,4 +104,5 @@ fn main() {
     replay(b"ror.tsv");
     replay(b"roxl.tsv");
     replay(b"roxr.tsv");
+    replay(b"chk.tsv");
 }
