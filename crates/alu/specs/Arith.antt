@@ -72,16 +72,20 @@ addqAddressOf size s d f = unlessByte size f (accepted (sum 32 s d false) f 8)
 abbrev pub subqAddressOf : Size → (s d : ℕ) → Flags → Answer
 subqAddressOf size s d f = unlessByte size f (accepted (difference 32 s d false) f 8)
 
--- ADDA, SUBA: the source is sign-extended to 32 bits, 32 bits are used, no flag is touched
+-- the source of ADDA, SUBA and CMPA: sign-extended to 32 bits
+abbrev pub addressSource : Size → (s : ℕ) → ℕ
+addressSource size s = extended (bitsOf size) 32 s
+
+-- ADDA, SUBA: 32 bits are used, no flag is touched
 abbrev pub addaOf : Size → (s d : ℕ) → Flags → Answer
-addaOf size s d f = unlessByte size f (accepted (sum 32 (extended (bitsOf size) 32 s) d false) f 8)
+addaOf size s d f = unlessByte size f (accepted (sum 32 (addressSource size s) d false) f 8)
 
 abbrev pub subaOf : Size → (s d : ℕ) → Flags → Answer
-subaOf size s d f = unlessByte size f (accepted (difference 32 (extended (bitsOf size) 32 s) d false) f 8)
+subaOf size s d f = unlessByte size f (accepted (difference 32 (addressSource size s) d false) f 8)
 
--- CMPA: the same source; the flags of long CMP
+-- CMPA: the flags of long CMP; the destination comes back as it was handed in
 abbrev pub cmpaOf : Size → (s d : ℕ) → Flags → Answer
-cmpaOf size s d f = unlessByte size f (accepted d (cmpOf Long (extended (bitsOf size) 32 s) d f .flags) 6)
+cmpaOf size s d f = unlessByte size f (accepted d (cmpOf Long (addressSource size s) d f .flags) 6)
 
 -- CLR
 abbrev pub clrOf : Size → Flags → Answer

@@ -5,7 +5,7 @@ ghost use Prim.Native.Nat.{_-_, _^_, _≤_};
 ghost use Rattle.alu.specs.Bits.{bitsOf, top, raised, extended};
 ghost use Rattle.alu.specs.ConditionCodes.{arithFlags, addFlags, subFlags, logicFlags, keepZ, keepX};
 ghost use Rattle.alu.specs.Answers.{unlessByte, chkFigure, onlyWord};
-ghost use Rattle.alu.specs.Arith.{sum, difference, addOf, addaOf, addqOf, addqAddressOf, addxOf, subOf, subaOf, subqOf, subqAddressOf, subxOf};
+ghost use Rattle.alu.specs.Arith.{sum, difference, addressSource, addOf, addaOf, addqOf, addqAddressOf, addxOf, subOf, subaOf, subqOf, subqAddressOf, subxOf};
 ghost use Rattle.alu.specs.Arith.{cmpOf, cmpaOf, clrOf, negOf, negxOf, notOf, extResult, extOf, checkOf, chkOf};
 use super::types::Answer;
 use super::types::Check;
@@ -88,6 +88,13 @@ fn extend(from: Size, to: Size, x: u32) -> u32
     masked(to, whole)
 }
 
+// What ADDA, SUBA and CMPA make of their source: a word is sign-extended.
+fn address_source(size: Size, src: u32) -> u32
+    ensures { λ r. ⌜ r ≡ addressSource size src ⌝ }
+{
+    extend(size, Size::Long, src)
+}
+
 // The answer, or the refusal of an operation that has no byte form.
 fn unless_byte(size: Size, flags: Flags, answer: Answer) -> Answer
     ensures { λ r. ⌜ r ≡ unlessByte size flags answer ⌝ }
@@ -108,11 +115,11 @@ pub fn exec_add(size: Size, src: u32, dst: u32, flags: Flags) -> Answer
     accepted(result, new, 4)
 }
 
-// ADDA <ea>,An. A word is sign-extended; no flag is touched.
+// ADDA <ea>,An. No flag is touched.
 pub fn exec_adda(size: Size, src: u32, dst: u32, flags: Flags) -> Answer
     ensures { λ r. ⌜ r ≡ addaOf size src dst flags ⌝ }
 {
-    let source = extend(size, Size::Long, src);
+    let source = address_source(size, src);
     let result = add(Size::Long, source, dst, false);
     unless_byte(size, flags, accepted(result, flags, 8))
 }
@@ -156,7 +163,7 @@ pub fn exec_sub(size: Size, src: u32, dst: u32, flags: Flags) -> Answer
 pub fn exec_suba(size: Size, src: u32, dst: u32, flags: Flags) -> Answer
     ensures { λ r. ⌜ r ≡ subaOf size src dst flags ⌝ }
 {
-    let source = extend(size, Size::Long, src);
+    let source = address_source(size, src);
     let result = subtract(Size::Long, source, dst, false);
     unless_byte(size, flags, accepted(result, flags, 8))
 }
@@ -196,11 +203,11 @@ pub fn exec_cmp(size: Size, src: u32, dst: u32, flags: Flags) -> Answer
     accepted(dst, new, 4)
 }
 
-// CMPA <ea>,An: long CMP with a word sign-extended.
+// CMPA <ea>,An: the flags of a long CMP.
 pub fn exec_cmpa(size: Size, src: u32, dst: u32, flags: Flags) -> Answer
     ensures { λ r. ⌜ r ≡ cmpaOf size src dst flags ⌝ }
 {
-    let source = extend(size, Size::Long, src);
+    let source = address_source(size, src);
     let long = exec_cmp(Size::Long, source, dst, flags);
     let new = long.flags;
     unless_byte(size, flags, accepted(dst, new, 6))

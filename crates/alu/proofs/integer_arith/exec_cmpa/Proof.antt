@@ -7,7 +7,6 @@ use Rattle.alu.specs.declared.types.Size.the-variants.{Long}
 use Rattle.alu.specs.declared.types.Answer.{Answer}
 use Rattle.alu.specs.Answers.{accepted, unlessByte}
 use Rattle.alu.specs.Arith.{cmpOf}
-use Rattle.alu.proofs.Bounds.{bits-le}
 use Rattle.alu.proofs.integer_arith.exec_cmpa.Statement.{statement}
 use Rattle.alu.proofs.integer_arith.exec_cmpa.Tie as tie
 
@@ -19,7 +18,7 @@ returns c =
     (c .before .accepted .ensures ∙
     ap (λ (long : Answer). accepted (a .dst) (long .flags) 6)
     (c .before .before .before .exec-cmp .ensures ∙
-    ap (λ (s : ℕ). cmpOf Long s (a .dst) (a .flags)) (c .before .before .before .before .extend .ensures)))
+    ap (λ (s : ℕ). cmpOf Long s (a .dst) (a .flags)) (c .before .before .before .before .address-source .ensures)))
 
 pub exec-cmpa-spec : {M : Type 1} → statement M
-exec-cmpa-spec = tie.close (tie.spec (λ c κs. bits-le (c .args .size)) (search needs) (search needs) (search needs) returns)
+exec-cmpa-spec = tie.close (tie.spec (search needs) (search needs) (search needs) (search needs) returns)
