@@ -6,7 +6,7 @@ extern uint64_t alu_call(uint8_t op, uint8_t size, uint32_t src, uint32_t dst, u
 
 enum { ADD = 0, ADDX = 3, LONG = 2 };
 
-/* Prints one step and returns its answer: result, flags from bit 32, figure from bit 40, refusal from bit 48. */
+/* Prints one step and returns its answer: result, flags from bit 32, figure from bit 40, refusal in bits 48 and 49. */
 static uint64_t step(const char *name, uint8_t op, uint32_t src, uint32_t dst, uint8_t ccr) {
     uint64_t answer = alu_call(op, LONG, src, dst, ccr);
     printf("%s\t%08X + %08X = %08X\tX %d C %d, %d clocks\n", name, (unsigned)dst, (unsigned)src, (unsigned)answer,

@@ -7,15 +7,15 @@ use crate::core::memory::AddressBus;
 use crate::core::types::{CpuType, Size as CrateSize};
 use crate::packed::{self, Answer, Op::*, Request, Size};
 
-/// A bus that remembers the internal clocks it was told of.
+/// A bus that sums the internal clocks it is told of. 64 bits: `words` asks an operation 2^32 times.
 #[derive(Default)]
 struct Clocks {
-    internal: u32,
+    internal: u64,
 }
 
 impl AddressBus for Clocks {
     fn sync(&mut self, clocks: u32) {
-        self.internal += clocks;
+        self.internal += u64::from(clocks);
     }
 }
 
@@ -140,7 +140,7 @@ impl Oracle {
         cpu.set_d(AT, r.dst);
         self.bus.internal = 0;
         let returned = cpu.exec_chk(&mut self.bus, size_of(r.size), r.src, AT);
-        let internal = self.bus.internal + std::mem::take(&mut cpu.pending_sync_clocks);
+        let internal = self.bus.internal + u64::from(std::mem::take(&mut cpu.pending_sync_clocks));
         let (class, figure) = match (cpu.last_exception_vector.take(), internal, returned) {
             (None, 6, 10) => (0, 10),
             (Some(vector::CHK), 8, 38) => (1, 8),

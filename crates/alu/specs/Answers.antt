@@ -1,4 +1,4 @@
--- Answers: what an accepted and what a refused operation hands back, document 01's number of each verdict, and what it says of CHK's classes.
+-- Answers: what an accepted and what a refused operation hands back, document 01's number of each verdict, figures and numbers of CHK's classes.
 -- Assumes nothing.
 use Prim.Native.Nat.{ℕ}
 use Rattle.alu.specs.declared.types.Size.{Size}
@@ -36,13 +36,14 @@ unlessByte Byte flags answer = refused NoSuchSize flags
 unlessByte Word flags answer = answer
 unlessByte Long flags answer = answer
 
--- CHK's classes: document 01's figures, and numbers of our own (document 01 has none)
+-- CHK's figure: of a trap it is the internal clocks alone
 abbrev pub chkFigure : Check → ℕ
 chkFigure Pass = 10
 chkFigure Over = 8
 chkFigure Short = 8
 chkFigure Below = 10
 
+-- CHK's classes by number: our own, document 01 has none. 0 is no trap
 abbrev pub classOf : Check → ℕ
 classOf Pass = 0
 classOf Over = 1

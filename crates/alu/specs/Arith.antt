@@ -1,5 +1,6 @@
 -- The integer arithmetic of the register forms: document 01, "Result and flag rules" and "Clock figures".
--- s is the source, d the destination, f the flags before (ADD, SUB and NEG take it for the one shape and do not look at it). Assumes nothing.
+-- s is the source, d the destination, f the flags before (ADD, SUB and NEG, and ADDQ and SUBQ on data, take it for the one shape and do not look
+-- at it). The last number of `accepted` is the clock figure; `unlessByte` refuses byte. Assumes nothing.
 use Prim.Native.Nat.{ℕ, _+_, _-_, _/_, _%_, _^_}
 use mathlib.Core.Bool.{Bool, false, not, cond, _&&_}
 use lib.IntN.{ℤ, pos, _+ℤ_, _-ℤ_}
@@ -44,7 +45,7 @@ abbrev pub subxOf : Size → (s d : ℕ) → Flags → Answer
 subxOf size s d f =
     let n = bitsOf size in let r = difference n s d (f .x) in accepted r (keepZ f (subFlags n s d r)) 4
 
--- CMP: the flags of d - s; the destination comes back as it was handed in
+-- CMP: the flags of d - s, X kept; the destination comes back as it was handed in
 abbrev pub cmpOf : Size → (s d : ℕ) → Flags → Answer
 cmpOf size s d f = let n = bitsOf size in accepted d (keepX f (subFlags n s d (difference n s d false))) 4
 
@@ -58,21 +59,21 @@ negxOf size d f =
     let n = bitsOf size in
     let r = difference n d 0 (f .x) in accepted r (keepZ f (negFlags n d r)) (figure size 4 6)
 
--- ADDQ, SUBQ on a data register: ADD and SUB with a figure of their own
+-- ADDQ, SUBQ on a data register: ADD and SUB with a figure of their own. Here s is any number; only a step holds it to 1 to 8
 abbrev pub addqOf : Size → (s d : ℕ) → Flags → Answer
 addqOf size s d f = let a = addOf size s d f in accepted (a .result) (a .flags) (figure size 4 8)
 
 abbrev pub subqOf : Size → (s d : ℕ) → Flags → Answer
 subqOf size s d f = let a = subOf size s d f in accepted (a .result) (a .flags) (figure size 4 8)
 
--- ADDQ, SUBQ on an address register: 32 bits are used, no flag is touched
+-- ADDQ, SUBQ on an address register: 32 bits are used at either size, no flag is touched
 abbrev pub addqAddressOf : Size → (s d : ℕ) → Flags → Answer
 addqAddressOf size s d f = unlessByte size f (accepted (sum 32 s d false) f 8)
 
 abbrev pub subqAddressOf : Size → (s d : ℕ) → Flags → Answer
 subqAddressOf size s d f = unlessByte size f (accepted (difference 32 s d false) f 8)
 
--- the source of ADDA, SUBA and CMPA: sign-extended to 32 bits
+-- the source of ADDA, SUBA and CMPA: a word is sign-extended to 32 bits, a long taken as it is
 abbrev pub addressSource : Size → (s : ℕ) → ℕ
 addressSource size s = extended (bitsOf size) 32 s
 
@@ -83,20 +84,21 @@ addaOf size s d f = unlessByte size f (accepted (sum 32 (addressSource size s) d
 abbrev pub subaOf : Size → (s d : ℕ) → Flags → Answer
 subaOf size s d f = unlessByte size f (accepted (difference 32 (addressSource size s) d false) f 8)
 
--- CMPA: the flags of long CMP; the destination comes back as it was handed in
+-- CMPA: the flags of long CMP, X kept; the destination comes back as it was handed in
 abbrev pub cmpaOf : Size → (s d : ℕ) → Flags → Answer
-cmpaOf size s d f = unlessByte size f (accepted d (cmpOf Long (addressSource size s) d f .flags) 6)
+cmpaOf size s d f =
+    let a = cmpOf Long (addressSource size s) d f in unlessByte size f (accepted d (a .flags) 6)
 
--- CLR
+-- CLR: the result is 0, whatever was there
 abbrev pub clrOf : Size → Flags → Answer
 clrOf size f = accepted 0 (logicFlags (bitsOf size) 0 f) (figure size 4 6)
 
--- NOT: every bit is turned over
+-- NOT: each of the n bits is turned over
 abbrev pub notOf : Size → (d : ℕ) → Flags → Answer
 notOf size d f =
     let n = bitsOf size in let r = 2 ^ n - 1 - low n d in accepted r (logicFlags n r f) (figure size 4 6)
 
--- EXT: byte to word, the upper half kept; word to long. (Byte is refused.)
+-- EXT: byte to word, the register's upper half kept; word to long. (Byte is refused.)
 abbrev pub extResult : Size → (d : ℕ) → ℕ
 extResult Byte d = d
 extResult Word d = join 16 (extended 8 16 d) (d / 2 ^ 16)
@@ -106,7 +108,7 @@ abbrev pub extOf : Size → (d : ℕ) → Flags → Answer
 extOf size d f =
     let r = extResult size d in unlessByte size f (accepted r (logicFlags (bitsOf size) r f) 4)
 
--- CHK's class, of n bits: the tests in document 01's order
+-- CHK's class, of n bits, in document 01's order: the value is above the bound; it is below 0, and value - bound doesn't fit; it is below 0
 unfoldable pub checkOf : (n bound value : ℕ) → Check
 checkOf n bound value =
     let b = signed n bound in
@@ -116,11 +118,13 @@ checkOf n bound value =
     (cond (ltZ v (pos 0)) Below
     Pass))
 
--- CHK, of words. N is set if the value is below 0, Z, V and C are cleared, X is kept; the value comes back as it was handed in
+-- CHK's flags: N is set if the value is below 0, Z, V and C are cleared, X is kept. (The Manual clears N where the value is above the bound, and
+-- leaves Z, V and C undefined; document 01 and the source have it so.)
 abbrev pub chkFlags : (value : ℕ) → Flags → Flags
 chkFlags value f = record { x = f .x; n = ltZ (signed 16 value) (pos 0); z = false; v = false; c = false }
 
+-- CHK, of words; the value comes back as it was handed in
 abbrev pub chkOf : Size → (bound value : ℕ) → Flags → Checked
 chkOf size bound value f =
-    let found = checkOf 16 bound value in
-    onlyWord size f (record { check = found; answer = accepted value (chkFlags value f) (chkFigure found) })
+    let class = checkOf 16 bound value in
+    onlyWord size f (record { check = class; answer = accepted value (chkFlags value f) (chkFigure class) })

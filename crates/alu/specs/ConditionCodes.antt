@@ -51,11 +51,11 @@ negFlags n d r = arithFlags n r (negV (top n d) (top n r)) (negC (top n d) (top 
 abbrev pub keepZ : (old new : Flags) → Flags
 keepZ old new = record { x = new .x; n = new .n; z = old .z && new .z; v = new .v; c = new .c }
 
--- CMP: X is kept
+-- CMP, CMPA: X is kept
 abbrev pub keepX : (old new : Flags) → Flags
 keepX old new = record { x = old .x; n = new .n; z = new .z; v = new .v; c = new .c }
 
--- the row of the logic operations: N and Z of the result, V and C cleared, X kept
+-- the row of the logic operations, here of CLR, NOT and EXT: N and Z of the result, V and C cleared, X kept
 unfoldable pub logicFlags : (n r : ℕ) → Flags → Flags
 logicFlags n r f = resultFlags n r (f .x) false false
 

@@ -1,5 +1,5 @@
 -- Document 01, "Proved sums", as one table: an operation for any incoming flags, and what document 01 says of its answer. Sums 1 to
--- 11; the last needs a run.
+-- 11; sum 12 needs a run.
 -- `proofs/Sums.antt` has the one statement, that every row holds. Assumes nothing.
 use Prim.Native.Nat.{ℕ}
 use mathlib.Core.Bool.{Bool, true, false, not, _&&_, Bool·beq}
@@ -51,8 +51,8 @@ table =
     givesIn 22 (shiftOf Rol Byte 8 0x81) 0x81 any set any any set ∷  -- 9
     givesIn 40 (λ f. shiftOf Roxl Word 17 0x8001 (withX f)) 0x8001 set set any any set ∷  -- 10
     -- CHK: bound, then value; class, then N
-    finds (chkOf Word 0x0001 0x8000) Short any ∷  -- 11
-    finds (chkOf Word 0x0000 0x8000) Below any ∷  -- 11, bound 0000
+    finds (chkOf Word 0x0001 0x8000) Short any ∷  -- 11, 8000 bound 0001
+    finds (chkOf Word 0x0000 0x8000) Below any ∷  -- 11, 8000 bound 0000
     finds (chkOf Word 0xfffe 0xffff) Over set ∷  -- 11, FFFF bound FFFE
     finds (chkOf Word 5 5) Pass any ∷ []  -- 11, 5 bound 5
 
@@ -77,7 +77,8 @@ found k f class n =
 
 unfoldable pub holdsAt : Row → Flags → Bool
 holdsAt (gives operation result x n z v c) f = answers (operation f) f result x n z v c
-holdsAt (givesIn clocks operation result x n z v c) f = eqb (operation f .clocks) clocks && answers (operation f) f result x n z v c
+holdsAt (givesIn clocks operation result x n z v c) f =
+    let a = operation f in eqb (a .clocks) clocks && answers a f result x n z v c
 holdsAt (finds operation class n) f = found (operation f) f class n
 
 -- a row holds for each of the 32 settings of the flags before

@@ -1,12 +1,17 @@
 // The integer arithmetic of registers, on values and flags: integer_arith.rs of the crate m68k, in its
-// order. An operand may have bits above its size; they do not count.
+// order. In a contract `top` and `raised` are the definitions of specs/, not the functions.
+//
+// Bits of an operand above its size do not count, but: an address register is used whole, and so is the
+// source of ADDQ and SUBQ on one; EXT word keeps the upper 16 bits; CMP, CMPA and CHK hand the
+// destination back as it came.
 ghost use mathlib.Core.Path.{_≡_};
 ghost use Prim.Native.Nat.{_-_, _^_, _≤_};
 ghost use Rattle.alu.specs.Bits.{bitsOf, top, raised, extended};
 ghost use Rattle.alu.specs.ConditionCodes.{arithFlags, addFlags, subFlags, logicFlags, keepZ, keepX};
 ghost use Rattle.alu.specs.Answers.{unlessByte, chkFigure, onlyWord};
-ghost use Rattle.alu.specs.Arith.{sum, difference, addressSource, addOf, addaOf, addqOf, addqAddressOf, addxOf, subOf, subaOf, subqOf, subqAddressOf, subxOf};
-ghost use Rattle.alu.specs.Arith.{cmpOf, cmpaOf, clrOf, negOf, negxOf, notOf, extResult, extOf, checkOf, chkOf};
+ghost use Rattle.alu.specs.Arith.{sum, difference, addressSource, extResult, checkOf};
+ghost use Rattle.alu.specs.Arith.{addOf, addaOf, addqOf, addqAddressOf, addxOf, subOf, subaOf, subqOf, subqAddressOf, subxOf};
+ghost use Rattle.alu.specs.Arith.{cmpOf, cmpaOf, clrOf, negOf, negxOf, notOf, extOf, chkOf};
 use super::types::Answer;
 use super::types::Check;
 use super::types::Checked;
@@ -78,8 +83,8 @@ fn raised(size: Size, x: u32) -> u32
     masked(size, whole)
 }
 
-// The low bits of x, as many as `from` has, sign-extended to as many as `to` has. All signed casts are
-// this. 2^32 keeps the signed number from going below 0.
+// The low bits of x, as many as `from` has, sign-extended to as many as `to` has: the signed casts of
+// ADDA, SUBA, CMPA and EXT. (CHK compares by `raised`.) 2^32 keeps the number from going below 0.
 fn extend(from: Size, to: Size, x: u32) -> u32
     requires { ⌜ bitsOf from ≤ bitsOf to ⌝ }
     ensures { λ r. ⌜ r ≡ extended (bitsOf from) (bitsOf to) x ⌝ }
@@ -88,7 +93,7 @@ fn extend(from: Size, to: Size, x: u32) -> u32
     masked(to, whole)
 }
 
-// What ADDA, SUBA and CMPA make of their source: a word is sign-extended.
+// What ADDA, SUBA and CMPA make of their source: a word is sign-extended, a long stays.
 fn address_source(size: Size, src: u32) -> u32
     ensures { λ r. ⌜ r ≡ addressSource size src ⌝ }
 {
@@ -133,7 +138,8 @@ pub fn exec_addq(size: Size, src: u32, dst: u32, flags: Flags) -> Answer
     accepted(sum.result, new, figure(size, 4, 8))
 }
 
-// ADDQ #<data>,An. All 32 bits are used at either size; no flag is touched.
+// ADDQ #<data>,An: the source's exec_addq with AddressDirect. All 32 bits are used at either size; no
+// flag is touched.
 pub fn exec_addq_address(size: Size, src: u32, dst: u32, flags: Flags) -> Answer
     ensures { λ r. ⌜ r ≡ addqAddressOf size src dst flags ⌝ }
 {
@@ -248,7 +254,7 @@ pub fn exec_not(size: Size, dst: u32, flags: Flags) -> Answer
     accepted(result, new, figure(size, 4, 6))
 }
 
-// What EXT makes of all 32 bits: a word's upper half is kept.
+// What EXT makes of the register: byte to word, the upper 16 bits kept; word to long.
 fn ext_result(size: Size, dst: u32) -> u32
     ensures { λ r. ⌜ r ≡ extResult size dst ⌝ }
 {
@@ -309,8 +315,9 @@ pub fn set_logic_flags(size: Size, result: u32, flags: Flags) -> Flags
     result_flags(size, result, flags.x, false, false)
 }
 
-// CHK's comparisons of signed words, in the 68000's order: the bound first. Short: the difference
-// value - bound, which the 68000 forms for it, overflows.
+// CHK's class. b and v are raised by 8000 hex, so that signed numbers compare as unsigned ones: below 0
+// is v < 8000, and value - bound is less than any word where v + 8000 < b. All comparisons stand before
+// the choice; a branch at each of them is slower.
 fn check(bound: u32, value: u32) -> Check
     ensures { λ r. ⌜ r ≡ checkOf 16 bound value ⌝ }
 {
@@ -329,7 +336,7 @@ fn check(bound: u32, value: u32) -> Check
     }
 }
 
-// CHK's figure; of a trap it is the internal clocks.
+// CHK's figure; of a trap it is the internal clocks alone.
 fn chk_figure(check: Check) -> u32
     ensures { λ r. ⌜ r ≡ chkFigure check ⌝ }
 {
@@ -358,11 +365,12 @@ fn only_word(size: Size, flags: Flags, checked: Checked) -> Checked
     }
 }
 
-// CHK <ea>,Dn: whether the word in Dn is below 0 or above the bound.
+// CHK <ea>,Dn: whether the word in Dn is below 0 or above the bound. N is the value's sign; the value comes
+// back as it was handed in.
 pub fn exec_chk(size: Size, bound: u32, value: u32, flags: Flags) -> Checked
     ensures { λ r. ⌜ r ≡ chkOf size bound value flags ⌝ }
 {
-    let found = check(bound, value);
+    let class = check(bound, value);
     let new = Flags {
         x: flags.x,
         n: top(Size::Word, value),
@@ -371,8 +379,8 @@ pub fn exec_chk(size: Size, bound: u32, value: u32, flags: Flags) -> Checked
         c: false,
     };
     let checked = Checked {
-        check: found,
-        answer: accepted(value, new, chk_figure(found)),
+        check: class,
+        answer: accepted(value, new, chk_figure(class)),
     };
     only_word(size, flags, checked)
 }

@@ -35,7 +35,8 @@ pub struct Answer {
     pub clocks: u32,
 }
 
-// What CHK finds. Over, Short and Below are traps.
+// CHK's class. Over: the value is above the bound. Below: it is below 0. Short: it is below 0 too, and
+// value - bound overflows, which the 68000 traps on the short path of Over. These three are traps.
 pub enum Check {
     Pass,
     Over,
@@ -60,7 +61,7 @@ pub fn number(verdict: Verdict) -> u32
     }
 }
 
-// A number for each of CHK's classes, 0 where it doesn't trap.
+// A number for each class of CHK, 0 where it doesn't trap.
 pub fn class(check: Check) -> u32
     ensures { λ r. ⌜ r ≡ classOf check ⌝ }
 {

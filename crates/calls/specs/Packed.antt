@@ -30,19 +30,20 @@ flagsOf ccr = record { x = bit 4 ccr; n = bit 3 ccr; z = bit 2 ccr; v = bit 1 cc
 abbrev pub ccrOf : Flags → ℕ
 ccrOf f = digit (f .x) * 16 + digit (f .n) * 8 + digit (f .z) * 4 + digit (f .v) * 2 + digit (f .c)
 
--- the answer: the result in bits 0 to 31, the flags from bit 32, the low 8 bits of the clock figure from bit 40 (every figure of document 01 is
--- below 256), the refusal number from bit 48, CHK's class from bit 52
+-- the answer: the result in bits 0 to 31, the flags in 32 to 36, the low 8 bits of the clock figure in 40 to 47 (every figure of document 01 is
+-- below 256), the refusal number in 48 and 49, CHK's class in 52 and 53; all other bits are 0
 abbrev pub packed : Checked → ℕ
 packed k =
     let a = k .answer in
     a .result + ccrOf (a .flags) * 2 ^ 32 + a .clocks % 256 * 2 ^ 40 + numberOf (a .verdict) * 2 ^ 48 + classOf (k .check) * 2 ^ 52
 
--- the answer of an operation other than CHK: no class, which is Pass's 0
+-- an answer without a class: Pass, packed as 0
 abbrev pub plain : Answer → Checked
 plain a = record { check = Pass; answer = a }
 
--- the operations by number, as document 01's forms table has them; the gap is for operations to come. Of a shift s is the count and d the value, of
--- CHK the bound and the value; where there is no source s is not looked at. A number that names no operation is refused with 2
+-- the operations by number, as document 01's forms table has them; 19 to 1c hex are kept for the bit operations. Of ADDQ and SUBQ (08 and 09 on
+-- data, 0a and 0b on an address register) s is the small number, of a shift the count, of CHK the bound; CLR looks at neither s nor d, the
+-- operations of d alone not at s. A number that names no operation is refused with 2
 unfoldable pub answerOf : (op : ℕ) → Size → (s d : ℕ) → Flags → Checked
 answerOf op size s d f =
     cond (eqb op 0x00) (plain (addOf size s d f))

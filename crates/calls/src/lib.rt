@@ -71,6 +71,7 @@ fn flags_of(ccr: u8) -> Flags
     }
 }
 
+// The weight of a flag that is set, else 0.
 fn weigh(flag: bool, weight: u64) -> u64
     ensures { λ r. ⌜ (r ≡ digit flag * weight) × (r ≤ weight) ⌝ }
 {
@@ -83,6 +84,7 @@ fn ccr_of(f: Flags) -> u64
     weigh(f.x, 16) + weigh(f.n, 8) + weigh(f.z, 4) + weigh(f.v, 2) + weigh(f.c, 1)
 }
 
+// The refusal number and CHK's class, with the bounds that keep the packed sum within 64 bits.
 fn number_of(verdict: Verdict) -> u64
     ensures { λ r. ⌜ (r ≡ numberOf verdict) × (r ≤ 2) ⌝ }
 {
@@ -95,6 +97,7 @@ fn class_of(check: Check) -> u64
     class(check) as u64
 }
 
+// The result, then the flags from bit 32, the figure from bit 40, the refusal number from bit 48.
 fn pack(a: Answer) -> u64
     ensures { λ r. ⌜ (r ≡ packed (plain a)) × (r < 2 ^ 52) ⌝ }
 {
@@ -106,7 +109,7 @@ fn pack(a: Answer) -> u64
         + number_of(verdict) * 0x1_0000_0000_0000
 }
 
-// CHK has its class beside the answer.
+// CHK has its class beside the answer: from bit 52.
 fn pack_checked(checked: Checked) -> u64
     ensures { λ r. ⌜ r ≡ packed checked ⌝ }
 {
@@ -151,7 +154,7 @@ fn answer(op: u8, size: Size, src: u32, dst: u32, ccr: u8) -> u64
     }
 }
 
-// Any operation by its number.
+// Any operation by its number. compare/README.md has the numbers.
 #[no_mangle]
 pub extern "C" fn alu_call(op: u8, size: u8, src: u32, dst: u32, ccr: u8) -> u64
     ensures { λ r. ⌜ r ≡ callOf op size src dst ccr ⌝ }
