@@ -133,9 +133,9 @@ pub fn exec_adda(size: Size, src: u32, dst: u32, flags: Flags) -> Answer
 pub fn exec_addq(size: Size, src: u32, dst: u32, flags: Flags) -> Answer
     ensures { λ r. ⌜ r ≡ addqOf size src dst flags ⌝ }
 {
-    let sum = exec_add(size, src, dst, flags);
-    let new = sum.flags;
-    accepted(sum.result, new, figure(size, 4, 8))
+    let answer = exec_add(size, src, dst, flags);
+    let new = answer.flags;
+    accepted(answer.result, new, figure(size, 4, 8))
 }
 
 // ADDQ #<data>,An: the source's exec_addq with AddressDirect. All 32 bits are used at either size; no
@@ -178,9 +178,9 @@ pub fn exec_suba(size: Size, src: u32, dst: u32, flags: Flags) -> Answer
 pub fn exec_subq(size: Size, src: u32, dst: u32, flags: Flags) -> Answer
     ensures { λ r. ⌜ r ≡ subqOf size src dst flags ⌝ }
 {
-    let difference = exec_sub(size, src, dst, flags);
-    let new = difference.flags;
-    accepted(difference.result, new, figure(size, 4, 8))
+    let answer = exec_sub(size, src, dst, flags);
+    let new = answer.flags;
+    accepted(answer.result, new, figure(size, 4, 8))
 }
 
 // SUBQ #<data>,An
