@@ -12,17 +12,13 @@ use native.Mathlib.Omega.{arith}
 use lib.Dec.{eqb}
 use lib.Pow.{pow-pos, pow-add, high, shr-lt}
 use Rattle.alu.specs.declared.types.Size.{Size}
-use Rattle.alu.specs.Bits.{bitsOf, low, bit, join}
+use Rattle.alu.specs.Bits.{bitsOf, low, bit, join, complement}
 use Rattle.alu.specs.Arith.{difference}
 use Rattle.alu.proofs.Bounds.{low-lt}
 use Rattle.alu.proofs.Signed.{pow-half}
 use Rattle.alu.proofs.Turns.{bit-low}
 use Rattle.alu.proofs.Wide.{join-low}
 use Rattle.alu.proofs.Whole.{difference-whole}
-
--- the n bits turned over
-abbrev pub complement : (n d : ℕ) → ℕ
-complement n d = 2 ^ n - 1 - low n d
 
 -- a number of digits q and e turned over, digit by digit
 parts : (J K q e : ℕ) → q < J → e < K → J * K - 1 - (q * K + e) ≡ (J - 1 - q) * K + (K - 1 - e)

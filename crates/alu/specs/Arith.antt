@@ -12,7 +12,7 @@ use Rattle.alu.specs.declared.types.Answer.{Answer}
 use Rattle.alu.specs.declared.types.Check.{Check}
 use Rattle.alu.specs.declared.types.Check.the-variants.{Pass, Over, Short, Below}
 use Rattle.alu.specs.declared.types.Checked.{Checked}
-use Rattle.alu.specs.Bits.{bitsOf, low, digit, join, signed, fits, extended}
+use Rattle.alu.specs.Bits.{bitsOf, low, digit, join, signed, fits, complement, extended}
 use Rattle.alu.specs.ConditionCodes.{addFlags, subFlags, negFlags, keepZ, keepX, logicFlags}
 use Rattle.alu.specs.Answers.{accepted, figure, unlessByte, chkFigure, onlyWord}
 
@@ -93,10 +93,10 @@ cmpaOf size s d f =
 abbrev pub clrOf : Size → Flags → Answer
 clrOf size f = accepted 0 (logicFlags (bitsOf size) 0 f) (figure size 4 6)
 
--- NOT: each of the n bits is turned over
+-- NOT
 abbrev pub notOf : Size → (d : ℕ) → Flags → Answer
 notOf size d f =
-    let n = bitsOf size in let r = 2 ^ n - 1 - low n d in accepted r (logicFlags n r f) (figure size 4 6)
+    let n = bitsOf size in let r = complement n d in accepted r (logicFlags n r f) (figure size 4 6)
 
 -- EXT: byte to word, the register's upper half kept; word to long. (Byte is refused.)
 abbrev pub extResult : Size → (d : ℕ) → ℕ

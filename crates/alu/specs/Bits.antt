@@ -51,6 +51,10 @@ fits n z = leZ (negℤ (pos (2 ^ (n - 1)))) z && ltZ z (pos (2 ^ (n - 1)))
 unfoldable pub raised : (n x : ℕ) → ℕ
 raised n x = (x + 2 ^ (n - 1)) % 2 ^ n
 
+-- the n bits turned over
+abbrev pub complement : (n x : ℕ) → ℕ
+complement n x = 2 ^ n - 1 - low n x
+
 -- the low k bits sign-extended to n, for k up to n: copies of their top bit in the places k to n - 1
 unfoldable pub extended : (k n x : ℕ) → ℕ
 extended k n x = low k x + digit (top k x) * (2 ^ n - 2 ^ k)

@@ -317,7 +317,7 @@ pub fn set_logic_flags(size: Size, result: u32, flags: Flags) -> Flags
 
 // CHK's class. b and v are raised by 8000 hex, so that signed numbers compare as unsigned ones: below 0
 // is v < 8000, and value - bound is less than any word where v + 8000 < b. All comparisons stand before
-// the choice; a branch at each of them is slower.
+// the choice; to return at each of them is slower.
 fn check(bound: u32, value: u32) -> Check
     ensures { λ r. ⌜ r ≡ checkOf 16 bound value ⌝ }
 {
