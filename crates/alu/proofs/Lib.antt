@@ -12,6 +12,7 @@ pub mod Checks
 pub mod Turns
 pub mod Rings
 pub mod Complement
+pub mod Bitops
 mod Overflow
 pub mod Counts
 pub mod Products

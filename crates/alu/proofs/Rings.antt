@@ -19,7 +19,7 @@ use Rattle.alu.specs.declared.shift_rotate.ShiftOp.the-variants.{Rol, Ro
 use Rattle.alu.specs.Bits.{bit, lowest, top, digit}
 use Rattle.alu.specs.Shifts.{left, right, turn, turns, shiftAnswer, rotated}
 use Rattle.alu.specs.Places.{above, below, fromAbove, fromBelow, turnedLeft}
-use Rattle.alu.proofs.Turns.{digit-lowest, digit-times, above-lt, below-lt, of-above, of-below, left-above, right-below, low-low, power-64}
+use Rattle.alu.proofs.Turns.{digit-lowest, digit-times, above-lt, below-lt, of-above, of-below, left-above, right-below, low-low, power-in}
 
 scale-mod : (s m : ℕ) {p : ℕ} → 0 < m → 0 < p → s * p % (m * p) ≡ s % m * p
 scale-mod s m {p} hm hp =
@@ -192,7 +192,7 @@ pub turned-64 :
     (s * 2 ^ j % 2 ^ 64 % (1 * 2 ^ p % 2 ^ 64) + s / 2 ^ (p - j) ≡ turnedLeft p j s) × (turnedLeft p j s < 2 ^ p) × (2 ^ p ≤ 2 ^ 33)
 turned-64 p j s positive p≤33 j≤p l =
     let e : p ≡ p - 1 + 1 = omega arith in (
-      ap (λ (x : ℕ). s * 2 ^ j % 2 ^ 64 % x + s / 2 ^ (p - j)) (power-64 p (omega arith)) ∙
+      ap (λ (x : ℕ). s * 2 ^ j % 2 ^ 64 % x + s / 2 ^ (p - j)) (power-in 64 p (omega arith)) ∙
           ap (λ (x : ℕ). x + s / 2 ^ (p - j)) (low-low p 64 (s * 2 ^ j) (omega arith)),
       subst⁻¹ (λ (x : ℕ). j ≤ x → s < 2 ^ x → turnedLeft x j s < 2 ^ x) e (turned-lt (p - 1) j s) j≤p l,
       pow-mono p≤33,

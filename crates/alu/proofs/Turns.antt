@@ -32,7 +32,7 @@ digit-below-2 (suc (suc r)) h = absurd (omega arith)
 pub digit-lowest : (x : ℕ) → digit (lowest x) ≡ x % 2
 digit-lowest x = digit-below-2 (x % 2) (omega arith)
 
-is-digit : (b : Bool) → eqb (digit b) 1 ≡ b
+pub is-digit : (b : Bool) → eqb (digit b) 1 ≡ b
 is-digit true = refl
 is-digit false = refl
 
@@ -244,10 +244,10 @@ asr-turns n k h positive l s m fill s-is m-is (inr set) =
     let law = asr-negative n k h positive high l in
     (ap fromBelow is ∙ law .0, omega (arith, is, law .1))
 
--- ---- a word of 64 bits holds enough
+-- ---- a word holds enough
 
-pub power-64 : (n : ℕ) → n < 64 → 1 * 2 ^ n % 2 ^ 64 ≡ 2 ^ n
-power-64 n l = ap (λ (x : ℕ). x % 2 ^ 64) (one-mul (2 ^ n)) ∙ mod-eq-of-lt (pow-lt l)
+pub power-in : (m n : ℕ) → n < m → 1 * 2 ^ n % 2 ^ m ≡ 2 ^ n
+power-in m n l = ap (λ (x : ℕ). x % 2 ^ m) (one-mul (2 ^ n)) ∙ mod-eq-of-lt (pow-lt l)
 
 pub from-above-64 : (n s : ℕ) → n < 64 → fromAbove n (s % 2 ^ 64) ≡ fromAbove n s
 from-above-64 n s l = λ i. record { value = low-low n 64 s (omega arith) i; out = bit-low n 64 s l i }

@@ -36,6 +36,12 @@ unlessByte Byte flags answer = refused NoSuchSize flags
 unlessByte Word flags answer = answer
 unlessByte Long flags answer = answer
 
+-- an operation with the long form alone: byte and word are refused
+abbrev pub onlyLong : Size → Flags → Answer → Answer
+onlyLong Byte flags answer = refused NoSuchSize flags
+onlyLong Word flags answer = refused NoSuchSize flags
+onlyLong Long flags answer = answer
+
 -- CHK's figure: of a trap it is the internal clocks alone
 abbrev pub chkFigure : Check → ℕ
 chkFigure Pass = 10

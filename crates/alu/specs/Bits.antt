@@ -58,3 +58,7 @@ complement n x = 2 ^ n - 1 - low n x
 -- the low k bits sign-extended to n, for k up to n: copies of their top bit in the places k to n - 1
 unfoldable pub extended : (k n x : ℕ) → ℕ
 extended k n x = low k x + digit (top k x) * (2 ^ n - 2 ^ k)
+
+-- x with bit k made b: the bits above k, then b, then the bits below k
+unfoldable pub withBit : (k : ℕ) → (b : Bool) → (x : ℕ) → ℕ
+withBit k b x = join (k + 1) (join k (low k x) (digit b)) (x / 2 ^ (k + 1))

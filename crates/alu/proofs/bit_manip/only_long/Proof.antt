@@ -1,0 +1,10 @@
+-- `only_long` meets its contract.
+-- Assumes nothing.
+use borrow.Author.Needs.{needs}
+use Rattle.alu.proofs.bit_manip.only_long.Statement.{statement}
+use Rattle.alu.proofs.bit_manip.only_long.Tie as tie
+
+pub only-long-spec : {M : Type 1} → statement M
+only-long-spec =
+    tie.close
+    (tie.spec (λ c. search needs) (search needs) (λ c. search needs) (search needs) (λ c. search needs) (λ c. cc) (λ c. cc) (λ c. search needs))

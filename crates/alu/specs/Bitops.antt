@@ -1,0 +1,35 @@
+-- BTST, BSET, BCLR and BCHG of a data register: document 01, "Result and flag rules" and "Clock figures". k is the number of a bit, 0 to 31; d is
+-- the destination, f the flags before. Assumes nothing.
+use Prim.Native.Nat.{ℕ, _%_}
+use mathlib.Core.Bool.{true, false, not, cond}
+use lib.Dec.{ltb}
+use Rattle.alu.specs.declared.types.Size.{Size}
+use Rattle.alu.specs.declared.types.Flags.{Flags}
+use Rattle.alu.specs.declared.types.Answer.{Answer}
+use Rattle.alu.specs.declared.bit_manip.BitOp.{BitOp}
+use Rattle.alu.specs.declared.bit_manip.BitOp.the-variants.{Btst, Bset, Bclr, Bchg}
+use Rattle.alu.specs.Bits.{bit, withBit}
+use Rattle.alu.specs.Answers.{accepted, onlyLong}
+
+-- BTST leaves the destination as it was handed in; BSET sets the bit, BCLR clears it, BCHG turns it over
+abbrev pub bitResult : BitOp → (k d : ℕ) → ℕ
+bitResult Btst k d = d
+bitResult Bset k d = withBit k true d
+bitResult Bclr k d = withBit k false d
+bitResult Bchg k d = withBit k (not (bit k d)) d
+
+-- Z tells whether the bit was clear before; no other flag is touched
+abbrev pub bitFlags : (k d : ℕ) → Flags → Flags
+bitFlags k d f = record { x = f .x; n = f .n; z = not (bit k d); v = f .v; c = f .c }
+
+-- BSET and BCHG take 2 clocks more from bit 16 on
+abbrev pub bitFigure : BitOp → (k : ℕ) → ℕ
+bitFigure Btst k = 6
+bitFigure Bset k = cond (ltb k 16) 6 8
+bitFigure Bclr k = 10
+bitFigure Bchg k = cond (ltb k 16) 6 8
+
+-- the operations. The bit's number is taken mod 32; byte and word are refused
+unfoldable pub bitOf : BitOp → Size → (number d : ℕ) → Flags → Answer
+bitOf op size number d f =
+    let k = number % 32 in onlyLong size f (accepted (bitResult op k d) (bitFlags k d f) (bitFigure op k))

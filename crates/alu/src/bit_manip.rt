@@ -1,0 +1,102 @@
+// BTST, BSET, BCLR and BCHG of a data register, on values and flags: bit_manip.rs of the crate m68k, in
+// its order. They have the long form alone.
+ghost use mathlib.Core.Path.{_≡_};
+ghost use Prim.Native.Nat.{_<_, _^_, _≤_};
+ghost use mathlib.Core.Bool.{cond};
+ghost use lib.Dec.{ltb};
+ghost use Rattle.alu.specs.Answers.{accepted, onlyLong};
+ghost use Rattle.alu.specs.Bits.{bit};
+ghost use Rattle.alu.specs.Bitops.{bitFlags, bitOf};
+use super::types::Answer;
+use super::types::Flags;
+use super::types::Size;
+use super::types::Verdict;
+use super::types::accepted;
+use super::types::refused;
+
+pub enum BitOp {
+    Btst,
+    Bset,
+    Bclr,
+    Bchg,
+}
+
+// What bit k weighs.
+fn weight(k: u32) -> u32
+    requires { ⌜ k < 32 ⌝ }
+    ensures { λ r. ⌜ r ≡ 2 ^ k ⌝ }
+{
+    1 << k
+}
+
+// 2 clocks more from bit 16 on.
+fn upper_figure(k: u32) -> u32
+    ensures { λ r. ⌜ r ≡ cond (ltb k 16) 6 8 ⌝ }
+{
+    if k < 16 { 6 } else { 8 }
+}
+
+// Z tells whether bit k was clear; no other flag is touched.
+fn bit_answer(k: u32, value: u32, result: u32, flags: Flags, clocks: u32) -> Answer
+    requires { ⌜ k < 32 ⌝ }
+    ensures { λ r. ⌜ r ≡ accepted result (bitFlags k value flags) clocks ⌝ }
+{
+    let new = Flags {
+        x: flags.x,
+        n: flags.n,
+        z: (value >> k) % 2 == 0,
+        v: flags.v,
+        c: flags.c,
+    };
+    accepted(result, new, clocks)
+}
+
+// The answer, or the refusal: there is no byte and no word form.
+fn only_long(size: Size, flags: Flags, answer: Answer) -> Answer
+    ensures { λ r. ⌜ r ≡ onlyLong size flags answer ⌝ }
+{
+    match size {
+        Size::Byte => refused(Verdict::NoSuchSize, flags),
+        Size::Word => refused(Verdict::NoSuchSize, flags),
+        Size::Long => answer,
+    }
+}
+
+// BTST Dn,Dn and BTST #<data>,Dn: the value comes back as it was handed in.
+pub fn exec_btst(size: Size, number: u32, value: u32, flags: Flags) -> Answer
+    ensures { λ r. ⌜ r ≡ bitOf BitOp.Btst size number value flags ⌝ }
+{
+    let bit = number % 32;
+    let answer = bit_answer(bit, value, value, flags, 6);
+    only_long(size, flags, answer)
+}
+
+// BSET: the bit is set.
+pub fn exec_bset(size: Size, number: u32, value: u32, flags: Flags) -> Answer
+    ensures { λ r. ⌜ r ≡ bitOf BitOp.Bset size number value flags ⌝ }
+{
+    let bit = number % 32;
+    let result = value | weight(bit);
+    let answer = bit_answer(bit, value, result, flags, upper_figure(bit));
+    only_long(size, flags, answer)
+}
+
+// BCLR: the bit is cleared.
+pub fn exec_bclr(size: Size, number: u32, value: u32, flags: Flags) -> Answer
+    ensures { λ r. ⌜ r ≡ bitOf BitOp.Bclr size number value flags ⌝ }
+{
+    let bit = number % 32;
+    let result = value & !weight(bit);
+    let answer = bit_answer(bit, value, result, flags, 10);
+    only_long(size, flags, answer)
+}
+
+// BCHG: the bit is turned over.
+pub fn exec_bchg(size: Size, number: u32, value: u32, flags: Flags) -> Answer
+    ensures { λ r. ⌜ r ≡ bitOf BitOp.Bchg size number value flags ⌝ }
+{
+    let bit = number % 32;
+    let result = value ^ weight(bit);
+    let answer = bit_answer(bit, value, result, flags, upper_figure(bit));
+    only_long(size, flags, answer)
+}
