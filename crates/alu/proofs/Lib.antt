@@ -17,3 +17,4 @@ mod Overflow
 pub mod Counts
 pub mod Products
 pub mod Sums
+pub mod Determined

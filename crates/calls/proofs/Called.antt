@@ -2,16 +2,17 @@
 -- Assumes nothing.
 use Prim.Native.Nat.{ℕ}
 use mathlib.Core.Path.{_≡_, ap, _∙_}
+use Rattle.alu.specs.declared.types.Size.{Size}
 use Rattle.alu.specs.declared.types.Flags.{Flags}
 use Rattle.alu.specs.declared.types.Checked.{Checked}
 use Rattle.calls.specs.declared.Found.{Found}
-use Rattle.calls.specs.Packed.{packed}
+use Rattle.calls.specs.Packed.{packed, answerOf}
 
 -- the operation whose number is `key`
 pub answered :
-    (of : ℕ → Flags → Checked) (op key : ℕ) {r : ℕ} {k : Checked} {flags flags′ : Flags} →
-    op ≡ key → flags ≡ flags′ → k ≡ of key flags → r ≡ packed k → r ≡ packed (of op flags′)
-answered of op key is f done gave = rw is (gave ∙ ap packed (done ∙ ap (of key) f))
+    (op key : ℕ) (size : Size) (s d : ℕ) {r : ℕ} {k : Checked} {flags flags′ : Flags} →
+    op ≡ key → flags ≡ flags′ → k ≡ answerOf key size s d flags → r ≡ packed k → r ≡ packed (answerOf op size s d flags′)
+answered op key size s d is f done gave = rw is (gave ∙ ap packed (done ∙ ap (answerOf key size s d) f))
 
 -- a size by its number, which may name none
 pub called :

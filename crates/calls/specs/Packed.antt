@@ -15,9 +15,11 @@ use Rattle.calls.specs.declared.Found.the-variants.{Is, NoSize}
 use Rattle.alu.specs.Bits.{bit, digit}
 use Rattle.alu.specs.Answers.{numberOf, classOf, refused}
 use Rattle.alu.specs.declared.shift_rotate.ShiftOp.the-variants.{Asl, Asr, Lsl, Lsr, Rol, Ror, Roxl, Roxr}
+use Rattle.alu.specs.declared.bit_manip.BitOp.the-variants.{Btst, Bset, Bclr, Bchg}
 use Rattle.alu.specs.Arith.{addOf, addxOf, addaOf, addqOf, addqAddressOf, subOf, subxOf, subaOf, subqOf, subqAddressOf, cmpOf, cmpaOf}
 use Rattle.alu.specs.Arith.{clrOf, negOf, negxOf, notOf, extOf, chkOf}
 use Rattle.alu.specs.Shifts.{shiftOf}
+use Rattle.alu.specs.Bitops.{bitOf}
 
 -- the sizes by number: 0 byte, 1 word, 2 long; a greater number names none
 abbrev pub sizeOf : ℕ → Found
@@ -41,9 +43,8 @@ packed k =
 abbrev pub plain : Answer → Checked
 plain a = record { check = Pass; answer = a }
 
--- the operations by number, as document 01's forms table has them; 19 to 1c hex are kept for the bit operations. Of ADDQ and SUBQ (08 and 09 on
--- data, 0a and 0b on an address register) s is the small number, of a shift the count, of CHK the bound; CLR looks at neither s nor d, the
--- operations of d alone not at s. A number that names no operation is refused with 2
+-- the operations by number, as document 01's forms table has them. Of ADDQ and SUBQ (08 and 09 on data, 0a and 0b on an address register) s is the small
+-- number, of a shift the count, of a bit operation the bit's number, of CHK the bound; CLR looks at neither s nor d, the operations of d alone not at s. A number that names no operation is refused with 2
 unfoldable pub answerOf : (op : ℕ) → Size → (s d : ℕ) → Flags → Checked
 answerOf op size s d f =
     cond (eqb op 0x00) (plain (addOf size s d f))
@@ -71,8 +72,12 @@ answerOf op size s d f =
     (cond (eqb op 0x16) (plain (shiftOf Ror size s d f))
     (cond (eqb op 0x17) (plain (shiftOf Roxl size s d f))
     (cond (eqb op 0x18) (plain (shiftOf Roxr size s d f))
+    (cond (eqb op 0x19) (plain (bitOf Btst size s d f))
+    (cond (eqb op 0x1a) (plain (bitOf Bset size s d f))
+    (cond (eqb op 0x1b) (plain (bitOf Bclr size s d f))
+    (cond (eqb op 0x1c) (plain (bitOf Bchg size s d f))
     (cond (eqb op 0x1d) (chkOf size s d f)
-    (plain (refused NoSuchSize f)))))))))))))))))))))))))))
+    (plain (refused NoSuchSize f)))))))))))))))))))))))))))))))
 
 -- the same where the size may be none: refused too
 abbrev pub askedOf : (op : ℕ) → Found → (s d : ℕ) → Flags → Checked

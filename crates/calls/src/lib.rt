@@ -5,6 +5,10 @@ ghost use Prim.Native.Nat.{_*_, _^_, _<_, _≤_};
 ghost use Rattle.alu.specs.Bits.{digit};
 ghost use Rattle.alu.specs.Answers.{numberOf, classOf};
 ghost use Rattle.calls.specs.Packed.{sizeOf, flagsOf, ccrOf, packed, plain, answerOf, callOf};
+use alu::bit_manip::exec_bchg;
+use alu::bit_manip::exec_bclr;
+use alu::bit_manip::exec_bset;
+use alu::bit_manip::exec_btst;
 use alu::integer_arith::exec_add;
 use alu::integer_arith::exec_adda;
 use alu::integer_arith::exec_addq;
@@ -149,6 +153,10 @@ fn answer(op: u8, size: Size, src: u32, dst: u32, ccr: u8) -> u64
         0x16 => pack(exec_ror(size, src, dst, flags_of(ccr))),
         0x17 => pack(exec_roxl(size, src, dst, flags_of(ccr))),
         0x18 => pack(exec_roxr(size, src, dst, flags_of(ccr))),
+        0x19 => pack(exec_btst(size, src, dst, flags_of(ccr))),
+        0x1a => pack(exec_bset(size, src, dst, flags_of(ccr))),
+        0x1b => pack(exec_bclr(size, src, dst, flags_of(ccr))),
+        0x1c => pack(exec_bchg(size, src, dst, flags_of(ccr))),
         0x1d => pack_checked(exec_chk(size, src, dst, flags_of(ccr))),
         _ => pack(refused(Verdict::NoSuchSize, flags_of(ccr))),
     }
