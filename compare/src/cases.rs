@@ -83,14 +83,25 @@ fn settings(op: Op, size: Size) -> Vec<u8> {
     if op.is_shift() && size == Size::Word { vec![0, 16, 15, 31] } else { (0..32).collect() }
 }
 
-/// Calls `case` with the crossed operands and flags, then with `random` requests of a fixed seed.
+/// How many cases `each` takes: one in `every` of the crossed operands and flags, and so many `random`.
+#[derive(Clone, Copy)]
+pub struct Extent {
+    pub every: u64,
+    pub random: u64,
+}
+
+/// Calls `case` with the crossed operands and flags, then with random requests of a fixed seed.
 #[inline(always)]
-pub fn each(op: Op, size: Size, random: u64, mut case: impl FnMut(Request)) {
+pub fn each(op: Op, size: Size, Extent { every, random }: Extent, mut case: impl FnMut(Request)) {
     let (sources, settings) = (sources(op, size), settings(op, size));
+    let mut place = 0;
     for dst in values(op, size) {
         for &src in &sources {
             for &ccr in &settings {
-                case(Request { op, size, src, dst, ccr });
+                if place % every == 0 {
+                    case(Request { op, size, src, dst, ccr });
+                }
+                place += 1;
             }
         }
     }

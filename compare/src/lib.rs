@@ -18,6 +18,7 @@ pub mod check;
 pub mod document;
 pub mod oracle;
 pub mod packed;
+#[cfg(feature = "port")]
 pub mod port;
 pub mod shim;
 pub mod vectors;

@@ -71,6 +71,19 @@ impl Op {
     }
 }
 
+/// The operations that `names` name in any case, or all of them if there is no name.
+pub fn named(names: &[String]) -> Result<Vec<Op>, String> {
+    if names.is_empty() {
+        return Ok(OPS.to_vec());
+    }
+    names.iter().map(|name| one_named(name)).collect()
+}
+
+fn one_named(name: &str) -> Result<Op, String> {
+    let lower = name.to_lowercase();
+    OPS.into_iter().find(|op| op.name() == lower).ok_or(format!("{name} is no operation"))
+}
+
 #[derive(Clone, Copy, PartialEq, Eq, Debug)]
 #[repr(u8)]
 pub enum Size {

@@ -1,7 +1,6 @@
 //! The packed convention, and the names of operations.
 
-use compare::packed::{Answer, OPS, Op, SIZES};
-use compare::port::{self, PORTED};
+use compare::packed::{Answer, OPS, Op, SIZES, named};
 
 #[test]
 fn numbers_are_places() {
@@ -30,8 +29,8 @@ fn only_what_the_crate_says_is_compared() {
 }
 
 #[test]
-fn operations_of_the_port_are_named_in_any_case() {
-    assert_eq!(port::named(&[]), Ok(PORTED.to_vec()));
-    assert_eq!(port::named(&["ADDX".into(), "neg".into()]), Ok(vec![Op::Addx, Op::Neg]));
-    assert!(port::named(&["add ".into()]).is_err());
+fn operations_are_named_in_any_case() {
+    assert_eq!(named(&[]), Ok(OPS.to_vec()));
+    assert_eq!(named(&["ADDX".into(), "neg".into()]), Ok(vec![Op::Addx, Op::Neg]));
+    assert!(named(&["add ".into()]).is_err());
 }

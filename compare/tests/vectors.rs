@@ -28,6 +28,22 @@ fn a_list_has_only_requests_of_the_domain() {
     }
 }
 
+/// Each size of the operation; at each all 32 settings of the flags, and the numbers at which its sign
+/// and its carry change.
+#[test]
+fn a_list_covers_sizes_settings_and_boundaries() {
+    for op in OPS {
+        for &size in op.sizes() {
+            let asked: Vec<_> = requests(op).into_iter().filter(|r| r.size == size).collect();
+            let top = size.mask() / 2 + 1;
+            assert!((0..32).all(|ccr| asked.iter().any(|r| r.ccr == ccr)), "{op:?} {size:?}");
+            for value in [0, 1, top - 1, top, top + 1, size.mask()] {
+                assert!(asked.iter().any(|r| r.dst == value), "{op:?} {size:?} {value:X}");
+            }
+        }
+    }
+}
+
 #[test]
 fn a_list_holds_what_the_reading_answers() {
     for op in OPS {

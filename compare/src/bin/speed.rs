@@ -1,13 +1,13 @@
 //! Nanoseconds a call: the crate's operation and the port's, from the same loop over the same operands.
 //! Each answer's flags go into the next call, as in a run of instructions.
 //!
-//!   speed [OP..]   none named: all of the port's. With the feature `fixed` the crate's operation is
+//!   speed [OP..]   none named: all of them. With the feature `fixed` the crate's operation is
 //!                  chosen at compile time.
 
 use compare::cases::Random;
 use compare::oracle::Oracle;
-use compare::packed::{Answer, OPS, Op, Request, Size};
-use compare::port::{self, alu_call};
+use compare::packed::{Answer, OPS, Op, Request, Size, named};
+use compare::port::alu_call;
 use std::hint::black_box;
 use std::process::ExitCode;
 use std::time::Instant;
@@ -145,7 +145,7 @@ fn fail(why: &str, status: u8) -> ExitCode {
 
 fn main() -> ExitCode {
     let names: Vec<String> = std::env::args().skip(1).collect();
-    let ops = match port::named(&names) {
+    let ops = match named(&names) {
         Ok(ops) => ops,
         Err(why) => return fail(&why, 2),
     };

@@ -1,8 +1,8 @@
-//! Writes the frozen lists of the crate's answers, one file for each operation that the port has.
+//! Writes the frozen lists of the crate's answers, one file for each operation.
 //!
 //!   vectors FOLDER
 
-use compare::port::PORTED;
+use compare::packed::OPS;
 use compare::vectors;
 use std::path::Path;
 use std::process::ExitCode;
@@ -10,7 +10,7 @@ use std::{fs, io};
 
 fn write_all(folder: &Path) -> io::Result<()> {
     fs::create_dir_all(folder)?;
-    for op in PORTED {
+    for op in OPS {
         let text = vectors::text(op);
         let path = folder.join(op.name()).with_extension("tsv");
         fs::write(&path, &text)?;

@@ -1,11 +1,11 @@
-//! All 2^32 pairs of words of the port's operations with two operands, against the crate and the reading
+//! All 2^32 pairs of words of the operations with two operands, against the crate and the reading
 //! of document 01. A pair gets one setting of the flags; they go round all 32.
 //!
 //!   words [OP..]   none named: all of them
 
 use compare::check::{Tally, port_and_both};
 use compare::oracle::Oracle;
-use compare::packed::{Op, Request, Size};
+use compare::packed::{Op, Request, Size, named};
 use compare::port;
 use std::process::ExitCode;
 use std::time::Instant;
@@ -29,7 +29,7 @@ fn is_left_out(op: Op) -> bool {
 
 /// The operations named, or all that aren't left out.
 fn chosen(names: &[String]) -> Result<Vec<Op>, String> {
-    let ops = port::named(names)?;
+    let ops = named(names)?;
     match ops.iter().find(|&&op| is_left_out(op) && !names.is_empty()) {
         Some(op) => Err(format!("{op:?} has no pairs of words, or differ takes every word of it")),
         None => Ok(ops.into_iter().filter(|&op| !is_left_out(op)).collect()),

@@ -104,5 +104,9 @@ fn main() {
     replay(b"ror.tsv");
     replay(b"roxl.tsv");
     replay(b"roxr.tsv");
+    replay(b"btst.tsv");
+    replay(b"bset.tsv");
+    replay(b"bclr.tsv");
+    replay(b"bchg.tsv");
     replay(b"chk.tsv");
 }
