@@ -1,9 +1,10 @@
--- The number with one bit made b, once over the bit's place k:
---     with-bit                 bit k of it is b, every other bit is the number's own
+-- The number with one bit made b, once over the bit's place k. What it is:
+--     with-bit                 bit k of it is b, and no other bit changes
 --     with-own, with-twice     made what it is, nothing changes; of two, the last counts
---     with-lt                  it has no more bits than the number and k
---     by-mask                  what BSET, BCLR and BCHG do: a word operation that leaves the bits above and below k
+--     with-lt                  it fits n bits if the number does and k is below n
+-- and how a processor makes it, by one law of words and masks (`by-mask`):
 --     set-bit, clear-bit, change-bit   `|`, `& !` and `^` with the weight of bit k
+--     is-clear                 the digit of bit k is 0 where it is clear
 -- Assumes nothing.
 use mathlib.Core.Path.{_≡_, refl, sym, ap, ap₂, _∙_}
 use mathlib.Core.Bool.{Bool, true, false, not, cond}
@@ -31,17 +32,17 @@ digit-under k q s q<2 s-low =
 under : (k : ℕ) (b : Bool) (x : ℕ) → join k (low k x) (digit b) < 2 ^ (k + 1)
 under k b x = digit-under k (digit b) (low k x) (omega (arith, digit-le b)) (low-lt k x)
 
-above : (k : ℕ) (b : Bool) (x : ℕ) → withBit k b x / 2 ^ (k + 1) ≡ x / 2 ^ (k + 1)
+upper-part : (k : ℕ) (b : Bool) (x : ℕ) → withBit k b x / 2 ^ (k + 1) ≡ x / 2 ^ (k + 1)
 unfolding withBit
-above k b x = high (x / 2 ^ (k + 1)) (k + 1) (under k b x)
+upper-part k b x = high (x / 2 ^ (k + 1)) (k + 1) (under k b x)
 
 -- from bit k on
 from : (k : ℕ) (b : Bool) (x : ℕ) → withBit k b x ≡ join k (low k x) (2 * (x / 2 ^ (k + 1)) + digit b)
 unfolding withBit
 from k b x = omega (arith, ap (λ (m : ℕ). x / 2 ^ (k + 1) * m) (pow-add 2 k 1))
 
-below : (k : ℕ) (b : Bool) (x : ℕ) → low k (withBit k b x) ≡ low k x
-below k b x = ap (low k) (from k b x) ∙ pow.low (2 * (x / 2 ^ (k + 1)) + digit b) k (low-lt k x)
+lower-part : (k : ℕ) (b : Bool) (x : ℕ) → low k (withBit k b x) ≡ low k x
+lower-part k b x = ap (low k) (from k b x) ∙ pow.low (2 * (x / 2 ^ (k + 1)) + digit b) k (low-lt k x)
 
 at : (k : ℕ) (b : Bool) (x : ℕ) → bit k (withBit k b x) ≡ b
 at k b x =
@@ -59,7 +60,7 @@ other i k b x k<i =
     let e : k + 1 + (i - k - 1) ≡ i = omega arith in
     let j = i - k - 1 in
     let of : (v : ℕ) → v / 2 ^ i ≡ v / 2 ^ (k + 1) / 2 ^ j = λ v. sym (shr-shr v (k + 1) j ∙ ap (λ (m : ℕ). v / 2 ^ m) e) in
-    ap (λ (t : ℕ). eqb (t % 2) 1) (of (withBit k b x) ∙ ap (λ (t : ℕ). t / 2 ^ j) (above k b x) ∙ sym (of x))
+    ap (λ (t : ℕ). eqb (t % 2) 1) (of (withBit k b x) ∙ ap (λ (t : ℕ). t / 2 ^ j) (upper-part k b x) ∙ sym (of x))
 
 pub with-bit : (i k : ℕ) (b : Bool) (x : ℕ) → bit i (withBit k b x) ≡ cond (eqb i k) b (bit i x)
 with-bit i k b x = first (decLt i k) where
@@ -68,7 +69,7 @@ with-bit i k b x = first (decLt i k) where
 
   lower : i < k → Same
   lower i<k =
-      sym (bit-low i k (withBit k b x) i<k) ∙ ap (bit i) (below k b x) ∙ bit-low i k x i<k ∙
+      sym (bit-low i k (withBit k b x) i<k) ∙ ap (bit i) (lower-part k b x) ∙ bit-low i k x i<k ∙
       ap (λ (t : Bool). cond t b (bit i x)) (sym (ne-eqb i k (omega arith)))
 
   upper : k < i → Same
@@ -91,8 +92,8 @@ not-one zero r<2 = refl
 not-one (suc zero) r<2 = refl
 not-one (suc (suc r)) r<2 = absurd (let none : ⊥ = omega arith in none)
 
-pub clear : (k x : ℕ) → eqb (x / 2 ^ k % 2) 0 ≡ not (bit k x)
-clear k x = not-one (x / 2 ^ k % 2) (omega arith)
+pub is-clear : (k x : ℕ) → eqb (x / 2 ^ k % 2) 0 ≡ not (bit k x)
+is-clear k x = not-one (x / 2 ^ k % 2) (omega arith)
 
 -- made what it is, nothing changes
 pub with-own : (k x : ℕ) → withBit k (bit k x) x ≡ x
@@ -107,7 +108,7 @@ with-own k x =
 -- of two, the last counts
 pub with-twice : (k : ℕ) (b c : Bool) (x : ℕ) → withBit k b (withBit k c x) ≡ withBit k b x
 unfolding withBit
-with-twice k b c x = ap₂ (λ (lo hi : ℕ). join (k + 1) (join k lo (digit b)) hi) (below k c x) (above k c x)
+with-twice k b c x = ap₂ (λ (lo hi : ℕ). join (k + 1) (join k lo (digit b)) hi) (lower-part k c x) (upper-part k c x)
 
 pub with-lt : (n k : ℕ) (b : Bool) (x : ℕ) → k < n → x < 2 ^ n → withBit k b x < 2 ^ n
 unfolding withBit
@@ -117,7 +118,7 @@ with-lt n k b x k<n x<n =
     let m : 2 ^ j * 2 ^ (k + 1) ≡ 2 ^ n = sym (pow-add 2 j (k + 1)) ∙ ap (λ (t : ℕ). 2 ^ t) e in
     rw (← m) (digits-lt (shr-lt j (k + 1) (rw e x<n)) (under k b x))
 
--- ---- a word operation with a mask, whose part above k is p, at k q, below k s
+-- ---- a word operation with a mask: p is the part of the mask above k, q its bit k, s the part below k
 
 module _ (f : ℕ → ℕ → ℕ)
     (block : (k a b r s : ℕ) → r < 2 ^ k → s < 2 ^ k → f (a * 2 ^ k + r) (b * 2 ^ k + s) ≡ f a b * 2 ^ k + f r s) where

@@ -1,4 +1,6 @@
 -- Document 01, "What each statement must exclude": two answers that satisfy the contract of a public function are equal.
+-- The functions here are lent nothing and have no state, so the result is the whole answer. A function that is lent something wants a statement over
+-- two exits, which shows them equal too.
 --     Determines       what is shown of a contract
 --     one-equation     a contract that is one equation has it
 --     determined       so every public function of this crate, by the contract that stands in its code. tools/contracts looks that none is left out
@@ -58,7 +60,7 @@ pub one-equation :
     {Args Result Exit : Lfts 0 → Type 0} (of : (κs : Lfts 0) → Args κs → Result κs) → Determines {Exit = Exit} (λ κs a r e. r ≡ of κs a)
 one-equation of = record { equal = λ κs a e one other p q. p ∙ sym q }
 
--- a contract, and the proof that it has it
+-- a contract, and the proof that it determines the result
 pub data Fixed : Type 1 where
   fixed : {Args Result Exit : Lfts 0 → Type 0} (met : (κs : Lfts 0) → Args κs → Result κs → Exit κs → Type 0) → Determines met → Fixed
 

@@ -42,7 +42,7 @@ onlyLong Byte flags answer = refused NoSuchSize flags
 onlyLong Word flags answer = refused NoSuchSize flags
 onlyLong Long flags answer = answer
 
--- CHK's figure: of a trap it is the internal clocks alone
+-- CHK's figure: of a trap it is the internal clocks alone (Pass has 6 of them in its 10)
 abbrev pub chkFigure : Check → ℕ
 chkFigure Pass = 10
 chkFigure Over = 8

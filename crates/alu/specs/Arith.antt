@@ -30,7 +30,7 @@ trueSum n s d x = signed n s +ℤ signed n d +ℤ pos (digit x)
 abbrev pub trueDifference : (n s d : ℕ) → (x : Bool) → ℤ
 trueDifference n s d x = signed n d -ℤ signed n s -ℤ pos (digit x)
 
--- ADD, ADDX
+-- ADD, ADDX. (The source returns no figure for ADDX and SUBX; document 01 counts them 4)
 abbrev pub addOf : Size → (s d : ℕ) → Flags → Answer
 addOf size s d f = let n = bitsOf size in let r = sum n s d false in accepted r (addFlags n s d r) 4
 

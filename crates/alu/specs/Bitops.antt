@@ -22,14 +22,15 @@ bitResult Bchg k d = withBit k (not (bit k d)) d
 abbrev pub bitFlags : (k d : ℕ) → Flags → Flags
 bitFlags k d f = record { x = f .x; n = f .n; z = not (bit k d); v = f .v; c = f .c }
 
--- BSET and BCHG take 2 clocks more from bit 16 on
+-- BSET and BCHG: 6, from bit 16 on 8. BCLR: 10 at every bit, as the source returns it
 abbrev pub bitFigure : BitOp → (k : ℕ) → ℕ
 bitFigure Btst k = 6
 bitFigure Bset k = cond (ltb k 16) 6 8
 bitFigure Bclr k = 10
 bitFigure Bchg k = cond (ltb k 16) 6 8
 
--- the operations. The bit's number is taken mod 32; byte and word are refused
-unfoldable pub bitOf : BitOp → Size → (number d : ℕ) → Flags → Answer
-bitOf op size number d f =
+-- the operations. The bit's number is taken mod 32, and here it is any number; only a step holds a small number to 0 to 31. Byte and word are
+-- refused
+unfoldable pub bitopOf : BitOp → Size → (number d : ℕ) → Flags → Answer
+bitopOf op size number d f =
     let k = number % 32 in onlyLong size f (accepted (bitResult op k d) (bitFlags k d f) (bitFigure op k))

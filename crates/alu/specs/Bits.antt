@@ -59,6 +59,6 @@ complement n x = 2 ^ n - 1 - low n x
 unfoldable pub extended : (k n x : ℕ) → ℕ
 extended k n x = low k x + digit (top k x) * (2 ^ n - 2 ^ k)
 
--- x with bit k made b: the bits above k, then b, then the bits below k
+-- x with bit k made b. From the lowest: the bits below k, then b, then the bits above k
 unfoldable pub withBit : (k : ℕ) → (b : Bool) → (x : ℕ) → ℕ
 withBit k b x = join (k + 1) (join k (low k x) (digit b)) (x / 2 ^ (k + 1))

@@ -1,12 +1,12 @@
 // BTST, BSET, BCLR and BCHG of a data register, on values and flags: bit_manip.rs of the crate m68k, in
-// its order. They have the long form alone.
+// its order. They have the long form alone. In a contract `accepted` is the definition of specs/, not the
+// function.
 ghost use mathlib.Core.Path.{_≡_};
-ghost use Prim.Native.Nat.{_<_, _^_, _≤_};
+ghost use Prim.Native.Nat.{_<_, _^_};
 ghost use mathlib.Core.Bool.{cond};
 ghost use lib.Dec.{ltb};
 ghost use Rattle.alu.specs.Answers.{accepted, onlyLong};
-ghost use Rattle.alu.specs.Bits.{bit};
-ghost use Rattle.alu.specs.Bitops.{bitFlags, bitOf};
+ghost use Rattle.alu.specs.Bitops.{bitFlags, bitopOf};
 use super::types::Answer;
 use super::types::Flags;
 use super::types::Size;
@@ -29,7 +29,7 @@ fn weight(k: u32) -> u32
     1 << k
 }
 
-// 2 clocks more from bit 16 on.
+// The figure of BSET and BCHG.
 fn upper_figure(k: u32) -> u32
     ensures { λ r. ⌜ r ≡ cond (ltb k 16) 6 8 ⌝ }
 {
@@ -64,39 +64,39 @@ fn only_long(size: Size, flags: Flags, answer: Answer) -> Answer
 
 // BTST Dn,Dn and BTST #<data>,Dn: the value comes back as it was handed in.
 pub fn exec_btst(size: Size, number: u32, value: u32, flags: Flags) -> Answer
-    ensures { λ r. ⌜ r ≡ bitOf BitOp.Btst size number value flags ⌝ }
+    ensures { λ r. ⌜ r ≡ bitopOf BitOp.Btst size number value flags ⌝ }
 {
-    let bit = number % 32;
-    let answer = bit_answer(bit, value, value, flags, 6);
+    let k = number % 32;
+    let answer = bit_answer(k, value, value, flags, 6);
     only_long(size, flags, answer)
 }
 
 // BSET: the bit is set.
 pub fn exec_bset(size: Size, number: u32, value: u32, flags: Flags) -> Answer
-    ensures { λ r. ⌜ r ≡ bitOf BitOp.Bset size number value flags ⌝ }
+    ensures { λ r. ⌜ r ≡ bitopOf BitOp.Bset size number value flags ⌝ }
 {
-    let bit = number % 32;
-    let result = value | weight(bit);
-    let answer = bit_answer(bit, value, result, flags, upper_figure(bit));
+    let k = number % 32;
+    let result = value | weight(k);
+    let answer = bit_answer(k, value, result, flags, upper_figure(k));
     only_long(size, flags, answer)
 }
 
 // BCLR: the bit is cleared.
 pub fn exec_bclr(size: Size, number: u32, value: u32, flags: Flags) -> Answer
-    ensures { λ r. ⌜ r ≡ bitOf BitOp.Bclr size number value flags ⌝ }
+    ensures { λ r. ⌜ r ≡ bitopOf BitOp.Bclr size number value flags ⌝ }
 {
-    let bit = number % 32;
-    let result = value & !weight(bit);
-    let answer = bit_answer(bit, value, result, flags, 10);
+    let k = number % 32;
+    let result = value & !weight(k);
+    let answer = bit_answer(k, value, result, flags, 10);
     only_long(size, flags, answer)
 }
 
 // BCHG: the bit is turned over.
 pub fn exec_bchg(size: Size, number: u32, value: u32, flags: Flags) -> Answer
-    ensures { λ r. ⌜ r ≡ bitOf BitOp.Bchg size number value flags ⌝ }
+    ensures { λ r. ⌜ r ≡ bitopOf BitOp.Bchg size number value flags ⌝ }
 {
-    let bit = number % 32;
-    let result = value ^ weight(bit);
-    let answer = bit_answer(bit, value, result, flags, upper_figure(bit));
+    let k = number % 32;
+    let result = value ^ weight(k);
+    let answer = bit_answer(k, value, result, flags, upper_figure(k));
     only_long(size, flags, answer)
 }

@@ -19,7 +19,7 @@ use Rattle.alu.specs.declared.bit_manip.BitOp.the-variants.{Btst, Bset, Bclr, B
 use Rattle.alu.specs.Arith.{addOf, addxOf, addaOf, addqOf, addqAddressOf, subOf, subxOf, subaOf, subqOf, subqAddressOf, cmpOf, cmpaOf}
 use Rattle.alu.specs.Arith.{clrOf, negOf, negxOf, notOf, extOf, chkOf}
 use Rattle.alu.specs.Shifts.{shiftOf}
-use Rattle.alu.specs.Bitops.{bitOf}
+use Rattle.alu.specs.Bitops.{bitopOf}
 
 -- the sizes by number: 0 byte, 1 word, 2 long; a greater number names none
 abbrev pub sizeOf : ℕ → Found
@@ -43,8 +43,10 @@ packed k =
 abbrev pub plain : Answer → Checked
 plain a = record { check = Pass; answer = a }
 
--- the operations by number, as document 01's forms table has them. Of ADDQ and SUBQ (08 and 09 on data, 0a and 0b on an address register) s is the small
--- number, of a shift the count, of a bit operation the bit's number, of CHK the bound; CLR looks at neither s nor d, the operations of d alone not at s. A number that names no operation is refused with 2
+-- the operations by number, as document 01's forms table has them.
+-- s is the source; of ADDQ and SUBQ (08 and 09 on data, 0a and 0b on an address register) the small number, of a shift the count, of a bit
+-- operation the bit's number, of CHK the bound. CLR looks at neither s nor d, NEG, NEGX, NOT and EXT not at s.
+-- A number that names no operation is refused with 2
 unfoldable pub answerOf : (op : ℕ) → Size → (s d : ℕ) → Flags → Checked
 answerOf op size s d f =
     cond (eqb op 0x00) (plain (addOf size s d f))
@@ -72,14 +74,14 @@ answerOf op size s d f =
     (cond (eqb op 0x16) (plain (shiftOf Ror size s d f))
     (cond (eqb op 0x17) (plain (shiftOf Roxl size s d f))
     (cond (eqb op 0x18) (plain (shiftOf Roxr size s d f))
-    (cond (eqb op 0x19) (plain (bitOf Btst size s d f))
-    (cond (eqb op 0x1a) (plain (bitOf Bset size s d f))
-    (cond (eqb op 0x1b) (plain (bitOf Bclr size s d f))
-    (cond (eqb op 0x1c) (plain (bitOf Bchg size s d f))
+    (cond (eqb op 0x19) (plain (bitopOf Btst size s d f))
+    (cond (eqb op 0x1a) (plain (bitopOf Bset size s d f))
+    (cond (eqb op 0x1b) (plain (bitopOf Bclr size s d f))
+    (cond (eqb op 0x1c) (plain (bitopOf Bchg size s d f))
     (cond (eqb op 0x1d) (chkOf size s d f)
     (plain (refused NoSuchSize f)))))))))))))))))))))))))))))))
 
--- the same where the size may be none: refused too
+-- the same where the size may be none: refused with 2, before anything else is looked at
 abbrev pub askedOf : (op : ℕ) → Found → (s d : ℕ) → Flags → Checked
 askedOf op (Is size) s d f = answerOf op size s d f
 askedOf op NoSize s d f = plain (refused NoSuchSize f)

@@ -2,13 +2,13 @@
 -- Assumes nothing.
 use Prim.Native.Nat.{_%_}
 use borrow.Author.Needs.{needs}
-use Rattle.alu.specs.Bitops.{bitOf}
+use Rattle.alu.specs.Bitops.{bitopOf}
 use Rattle.alu.proofs.Bitops.{change-bit}
 use Rattle.alu.proofs.bit_manip.exec_bchg.Statement.{statement}
 use Rattle.alu.proofs.bit_manip.exec_bchg.Tie as tie
 
 returns : tie.Need-returns
-unfolding bitOf
+unfolding bitopOf
 returns c =
     let a = c .before .before .before .before .args in
     cc (change-bit (a .number % 32) (a .value))

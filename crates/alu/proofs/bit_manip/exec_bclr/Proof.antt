@@ -3,13 +3,13 @@
 use Prim.Native.Nat.{_%_}
 use native.Mathlib.Omega.{arith}
 use borrow.Author.Needs.{needs}
-use Rattle.alu.specs.Bitops.{bitOf}
+use Rattle.alu.specs.Bitops.{bitopOf}
 use Rattle.alu.proofs.Bitops.{clear-bit}
 use Rattle.alu.proofs.bit_manip.exec_bclr.Statement.{statement}
 use Rattle.alu.proofs.bit_manip.exec_bclr.Tie as tie
 
 returns : tie.Need-returns
-unfolding bitOf
+unfolding bitopOf
 returns c =
     let a = c .before .before .before .args in
     cc (clear-bit 32 (a .number % 32) (a .value) (omega arith) (omega arith))

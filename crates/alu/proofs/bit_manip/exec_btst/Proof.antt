@@ -1,12 +1,12 @@
 -- `exec_btst` meets its contract.
 -- Assumes nothing.
 use borrow.Author.Needs.{needs}
-use Rattle.alu.specs.Bitops.{bitOf}
+use Rattle.alu.specs.Bitops.{bitopOf}
 use Rattle.alu.proofs.bit_manip.exec_btst.Statement.{statement}
 use Rattle.alu.proofs.bit_manip.exec_btst.Tie as tie
 
 returns : tie.Need-returns
-unfolding bitOf
+unfolding bitopOf
 returns c =
     cc
 
