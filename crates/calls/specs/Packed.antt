@@ -2,6 +2,7 @@
 -- Assumes nothing.
 use Prim.Native.Nat.{ℕ, _+_, _*_, _%_, _^_}
 use mathlib.Core.Bool.{cond}
+use mathlib.Core.List.{List, [], _∷_}
 use lib.Dec.{eqb}
 use Rattle.alu.specs.declared.types.Size.{Size}
 use Rattle.alu.specs.declared.types.Size.the-variants.{Byte, Word, Long}
@@ -43,43 +44,67 @@ packed k =
 abbrev pub plain : Answer → Checked
 plain a = record { check = Pass; answer = a }
 
--- the operations by number, as document 01's forms table has them.
--- s is the source; of ADDQ and SUBQ (08 and 09 on data, 0a and 0b on an address register) the small number, of a shift the count, of a bit
--- operation the bit's number, of CHK the bound. CLR looks at neither s nor d, NEG, NEGX, NOT and EXT not at s.
--- A number that names no operation is refused with 2
-unfoldable pub answerOf : (op : ℕ) → Size → (s d : ℕ) → Flags → Checked
-answerOf op size s d f =
-    cond (eqb op 0x00) (plain (addOf size s d f))
-    (cond (eqb op 0x01) (plain (subOf size s d f))
-    (cond (eqb op 0x02) (plain (cmpOf size s d f))
-    (cond (eqb op 0x03) (plain (addxOf size s d f))
-    (cond (eqb op 0x04) (plain (subxOf size s d f))
-    (cond (eqb op 0x05) (plain (addaOf size s d f))
-    (cond (eqb op 0x06) (plain (subaOf size s d f))
-    (cond (eqb op 0x07) (plain (cmpaOf size s d f))
-    (cond (eqb op 0x08) (plain (addqOf size s d f))
-    (cond (eqb op 0x09) (plain (subqOf size s d f))
-    (cond (eqb op 0x0a) (plain (addqAddressOf size s d f))
-    (cond (eqb op 0x0b) (plain (subqAddressOf size s d f))
-    (cond (eqb op 0x0c) (plain (clrOf size f))
-    (cond (eqb op 0x0d) (plain (negOf size d f))
-    (cond (eqb op 0x0e) (plain (negxOf size d f))
-    (cond (eqb op 0x0f) (plain (notOf size d f))
-    (cond (eqb op 0x10) (plain (extOf size d f))
-    (cond (eqb op 0x11) (plain (shiftOf Asl size s d f))
-    (cond (eqb op 0x12) (plain (shiftOf Asr size s d f))
-    (cond (eqb op 0x13) (plain (shiftOf Lsl size s d f))
-    (cond (eqb op 0x14) (plain (shiftOf Lsr size s d f))
-    (cond (eqb op 0x15) (plain (shiftOf Rol size s d f))
-    (cond (eqb op 0x16) (plain (shiftOf Ror size s d f))
-    (cond (eqb op 0x17) (plain (shiftOf Roxl size s d f))
-    (cond (eqb op 0x18) (plain (shiftOf Roxr size s d f))
-    (cond (eqb op 0x19) (plain (bitopOf Btst size s d f))
-    (cond (eqb op 0x1a) (plain (bitopOf Bset size s d f))
-    (cond (eqb op 0x1b) (plain (bitopOf Bclr size s d f))
-    (cond (eqb op 0x1c) (plain (bitopOf Bchg size s d f))
-    (cond (eqb op 0x1d) (chkOf size s d f)
-    (plain (refused NoSuchSize f)))))))))))))))))))))))))))))))
+-- an operation and its number: of source and destination, of the destination alone, of neither, and CHK, of bound and value
+pub data Row : Type 0 where
+  two : (number : ℕ) → (Size → (s d : ℕ) → Flags → Answer) → Row
+  one : (number : ℕ) → (Size → (d : ℕ) → Flags → Answer) → Row
+  none : (number : ℕ) → (Size → Flags → Answer) → Row
+  check : (number : ℕ) → (Size → (bound value : ℕ) → Flags → Checked) → Row
+
+-- the operations by number, in the order of document 01's forms table. The source of ADDQ and SUBQ (08 and 09 on data, 0a and 0b on an address
+-- register) is the small number, that of a shift the count, that of a bit operation the bit's number
+unfoldable pub operations : List Row
+operations =
+    two 0x00 addOf ∷
+    two 0x01 subOf ∷
+    two 0x02 cmpOf ∷
+    two 0x03 addxOf ∷
+    two 0x04 subxOf ∷
+    two 0x05 addaOf ∷
+    two 0x06 subaOf ∷
+    two 0x07 cmpaOf ∷
+    two 0x08 addqOf ∷
+    two 0x09 subqOf ∷
+    two 0x0a addqAddressOf ∷
+    two 0x0b subqAddressOf ∷
+    none 0x0c clrOf ∷
+    one 0x0d negOf ∷
+    one 0x0e negxOf ∷
+    one 0x0f notOf ∷
+    one 0x10 extOf ∷
+    two 0x11 (shiftOf Asl) ∷
+    two 0x12 (shiftOf Asr) ∷
+    two 0x13 (shiftOf Lsl) ∷
+    two 0x14 (shiftOf Lsr) ∷
+    two 0x15 (shiftOf Rol) ∷
+    two 0x16 (shiftOf Ror) ∷
+    two 0x17 (shiftOf Roxl) ∷
+    two 0x18 (shiftOf Roxr) ∷
+    two 0x19 (bitopOf Btst) ∷
+    two 0x1a (bitopOf Bset) ∷
+    two 0x1b (bitopOf Bclr) ∷
+    two 0x1c (bitopOf Bchg) ∷
+    check 0x1d chkOf ∷ []
+
+abbrev pub numberIn : Row → ℕ
+numberIn (two number of) = number
+numberIn (one number of) = number
+numberIn (none number of) = number
+numberIn (check number of) = number
+
+abbrev pub done : Row → Size → (s d : ℕ) → Flags → Checked
+done (two number of) size s d f = plain (of size s d f)
+done (one number of) size s d f = plain (of size d f)
+done (none number of) size s d f = plain (of size f)
+done (check number of) size s d f = of size s d f
+
+-- the operation of a table that has that number; a number that names none is refused with 2
+unfoldable pub chosen : List Row → (op : ℕ) → Size → (s d : ℕ) → Flags → Checked
+chosen [] op size s d f = plain (refused NoSuchSize f)
+chosen (row ∷ rest) op size s d f = cond (eqb op (numberIn row)) (done row size s d f) (chosen rest op size s d f)
+
+abbrev pub answerOf : (op : ℕ) → Size → (s d : ℕ) → Flags → Checked
+answerOf op size s d f = chosen operations op size s d f
 
 -- the same where the size may be none: refused with 2, before anything else is looked at
 abbrev pub askedOf : (op : ℕ) → Found → (s d : ℕ) → Flags → Checked
