@@ -145,57 +145,50 @@ module _ (n m : ℕ) (n-pos : 0 < n) (m-pos : 0 < m) (s₀ s₁ d₀ d₁ : ℕ)
 
 -- The operations at any two sizes. The low operands have no bits above the first size.
 module _ (first second : Size) (s₀ s₁ d₀ d₁ : ℕ) (f : Flags) (s-low : s₀ < 2 ^ bitsOf first) (d-low : d₀ < 2 ^ bitsOf first) where
+  -- the two sizes, and the whole operands
+  abbrev n : ℕ
+  n = bitsOf first
+
+  abbrev m : ℕ
+  m = bitsOf second
+
+  abbrev s : ℕ
+  s = join n s₀ s₁
+
+  abbrev d : ℕ
+  d = join n d₀ d₁
+
   pub add-addx :
-      let n = bitsOf first in
-      let m = bitsOf second in
-      let s = join n s₀ s₁ in
-      let d = join n d₀ d₁ in
       let a = addOf first s₀ d₀ f in
       let b = addxOf second s₁ d₁ (a .flags) in
       (join n (a .result) (b .result) ≡ sum (n + m) s d false) × (b .flags ≡ addFlags (n + m) s d (sum (n + m) s d false))
-  add-addx = wide-add (bitsOf first) (bitsOf second) (bits-pos first) (bits-pos second) s₀ s₁ d₀ d₁ s-low d-low false
+  add-addx = wide-add n m (bits-pos first) (bits-pos second) s₀ s₁ d₀ d₁ s-low d-low false
 
   pub sub-subx :
-      let n = bitsOf first in
-      let m = bitsOf second in
-      let s = join n s₀ s₁ in
-      let d = join n d₀ d₁ in
       let a = subOf first s₀ d₀ f in
       let b = subxOf second s₁ d₁ (a .flags) in
       (join n (a .result) (b .result) ≡ difference (n + m) s d false) × (b .flags ≡ subFlags (n + m) s d (difference (n + m) s d false))
-  sub-subx = wide-sub (bitsOf first) (bitsOf second) (bits-pos first) (bits-pos second) s₀ s₁ d₀ d₁ s-low d-low false
+  sub-subx = wide-sub n m (bits-pos first) (bits-pos second) s₀ s₁ d₀ d₁ s-low d-low false
 
   pub add-addx-exact :
-      let n = bitsOf first in
-      let m = bitsOf second in
-      let s = join n s₀ s₁ in
-      let d = join n d₀ d₁ in
       let a = addOf first s₀ d₀ f in
       let b = addxOf second s₁ d₁ (a .flags) in
       low (n + m) d + low (n + m) s ≡ join n (a .result) (b .result) + digit (b .flags .x) * 2 ^ (n + m)
   unfolding addFlags
   add-addx-exact =
-      let n = bitsOf first in
-      let m = bitsOf second in
       let x-is = ap (λ (g : Flags). digit (g .x)) (add-addx .1) in
       rw (add-addx .0, x-is)
-      (omega (arith, add-exact (n + m) (omega (arith, bits-pos first)) (join n s₀ s₁) (join n d₀ d₁) false))
+      (omega (arith, add-exact (n + m) (omega (arith, bits-pos first)) s d false))
 
   pub sub-subx-exact :
-      let n = bitsOf first in
-      let m = bitsOf second in
-      let s = join n s₀ s₁ in
-      let d = join n d₀ d₁ in
       let a = subOf first s₀ d₀ f in
       let b = subxOf second s₁ d₁ (a .flags) in
       low (n + m) s + join n (a .result) (b .result) ≡ low (n + m) d + digit (b .flags .x) * 2 ^ (n + m)
   unfolding subFlags
   sub-subx-exact =
-      let n = bitsOf first in
-      let m = bitsOf second in
       let x-is = ap (λ (g : Flags). digit (g .x)) (sub-subx .1) in
       rw (sub-subx .0, x-is)
-      (omega (arith, sub-exact (n + m) (omega (arith, bits-pos first)) (join n s₀ s₁) (join n d₀ d₁) false))
+      (omega (arith, sub-exact (n + m) (omega (arith, bits-pos first)) s d false))
 
 pub neg-negx :
     (first second : Size) (d₀ d₁ : ℕ) (f : Flags) → d₀ < 2 ^ bitsOf first →
