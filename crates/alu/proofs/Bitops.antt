@@ -8,7 +8,7 @@
 -- Assumes nothing.
 use mathlib.Core.Path.{_≡_, refl, sym, ap, ap₂, _∙_}
 use mathlib.Core.Bool.{Bool, true, false, not, cond}
-use Prim.Native.Nat.{ℕ, zero, suc, _+_, _-_, _*_, _/_, _%_, _^_, _≤_, _<_}
+use Prim.Native.Nat.{ℕ, _+_, _-_, _*_, _/_, _%_, _^_, _≤_, _<_}
 use native.Mathlib.Nat.{mod-eq-of-lt, mul-le-mul-right}
 use native.Mathlib.Omega.{arith}
 use native.Mathlib.Decide.{decLt}
@@ -19,8 +19,8 @@ use lib.Pow.{pow-pos, pow-add, high, split, shr-shr, shr-lt, shr-mod, ones-split
 use lib.Pow as pow
 use lib.Bits.{bitAnd, bitOr, bitXor, and-block, or-block, xor-block, and-mask, or-zero-r, xor-zero-r}
 use Rattle.alu.specs.Bits.{low, bit, digit, join, withBit}
-use Rattle.alu.proofs.Bounds.{digit-le, low-lt}
-use Rattle.alu.proofs.Turns.{digit-lowest, digit-times, is-digit, bit-low}
+use Rattle.alu.proofs.Bounds.{digit-le, low-lt, below-2}
+use Rattle.alu.proofs.Turns.{digit-lowest, is-digit, bit-low}
 
 -- ---- the three parts
 
@@ -88,9 +88,7 @@ with-bit i k b x = first (decLt i k) where
 
 -- a bit is clear where its digit is 0
 not-one : (r : ℕ) → r < 2 → eqb r 0 ≡ not (eqb r 1)
-not-one zero r<2 = refl
-not-one (suc zero) r<2 = refl
-not-one (suc (suc r)) r<2 = absurd (let none : ⊥ = omega arith in none)
+not-one = below-2 (λ r. eqb r 0 ≡ not (eqb r 1)) refl refl
 
 pub is-clear : (k x : ℕ) → eqb (x / 2 ^ k % 2) 0 ≡ not (bit k x)
 is-clear k x = not-one (x / 2 ^ k % 2) (omega arith)

@@ -2,7 +2,7 @@
 -- Assumes nothing.
 use mathlib.Core.Path.{_≡_, _∙_, ap, refl}
 use mathlib.Core.Bool.{Bool, true, false, not, _&&_, _||_, xor}
-use Prim.Native.Nat.{ℕ, zero, suc, _-_, _/_, _%_, _^_, _<_}
+use Prim.Native.Nat.{ℕ, _-_, _/_, _%_, _^_, _<_}
 use native.Mathlib.Nat.{mod-lt, mod-eq-of-lt}
 use native.Mathlib.Omega.{arith}
 use lib.Dec.{eqb, lit<}
@@ -10,6 +10,7 @@ use lib.Bits.{bitAnd, bitOr, bitXor, and-shr, or-shr, xor-shr, and-mod, or-mod, 
 use Rattle.alu.specs.declared.types.Size.{Size}
 use Rattle.alu.specs.declared.types.Size.the-variants.{Byte, Word, Long}
 use Rattle.alu.specs.Bits.{bitsOf, top}
+use Rattle.alu.proofs.Bounds.{below-2}
 
 -- an operation f on words that goes bit by bit, and does g on single bits
 module _ (f : ℕ → ℕ → ℕ) (g : Bool → Bool → Bool)
@@ -18,13 +19,9 @@ module _ (f : ℕ → ℕ → ℕ) (g : Bool → Bool → Bool)
     (none : eqb (f 0 0) 1 ≡ g false false) (right : eqb (f 0 1) 1 ≡ g false true)
     (left : eqb (f 1 0) 1 ≡ g true false) (both : eqb (f 1 1) 1 ≡ g true true) where
   on-digits : (p q : ℕ) → p < 2 → q < 2 → eqb (f p q) 1 ≡ g (eqb p 1) (eqb q 1)
-  on-digits zero zero p<2 q<2 = none
-  on-digits zero (suc zero) p<2 q<2 = right
-  on-digits (suc zero) zero p<2 q<2 = left
-  on-digits (suc zero) (suc zero) p<2 q<2 = both
-  on-digits (suc (suc p)) q p<2 q<2 = absurd (let far : ⊥ = omega arith in far)
-  on-digits zero (suc (suc q)) p<2 q<2 = absurd (let far : ⊥ = omega arith in far)
-  on-digits (suc zero) (suc (suc q)) p<2 q<2 = absurd (let far : ⊥ = omega arith in far)
+  on-digits p q p<2 q<2 =
+      below-2 (λ p. eqb (f p q) 1 ≡ g (eqb p 1) (eqb q 1)) (below-2 (λ q. eqb (f 0 q) 1 ≡ g false (eqb q 1)) none right q q<2)
+      (below-2 (λ q. eqb (f 1 q) 1 ≡ g true (eqb q 1)) left both q q<2) p p<2
 
   bit-by-bit : (n a b : ℕ) → top n (f a b) ≡ g (top n a) (top n b)
   unfolding top

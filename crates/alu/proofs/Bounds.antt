@@ -1,8 +1,9 @@
 -- Bounds that the functions' proofs cite.
 -- Assumes nothing.
-use Prim.Native.Nat.{ℕ, _+_, _-_, _≤_, _<_, _^_}
+use Prim.Native.Nat.{ℕ, zero, suc, _+_, _-_, _≤_, _<_, _^_}
 use mathlib.Core.Bool.{Bool, true, false}
 use native.Mathlib.Nat.{mod-lt}
+use native.Mathlib.Omega.{arith}
 use lib.Dec.{lit<, lit≤}
 use lib.Pow.{pow-pos}
 use Rattle.alu.specs.declared.types.Size.{Size}
@@ -37,6 +38,12 @@ class-le Pass = lit≤ tt
 class-le Over = lit≤ tt
 class-le Short = lit≤ tt
 class-le Below = lit≤ tt
+
+-- what holds of 0 and of 1 holds of every number below 2
+pub below-2 : (P : ℕ → Type 0) → P 0 → P 1 → (r : ℕ) → r < 2 → P r
+below-2 P at-0 at-1 zero r<2 = at-0
+below-2 P at-0 at-1 (suc zero) r<2 = at-1
+below-2 P at-0 at-1 (suc (suc r)) r<2 = absurd (let none : ⊥ = omega arith in none)
 
 pub digit-le : (b : Bool) → digit b ≤ 1
 digit-le true = lit≤ tt

@@ -6,7 +6,7 @@
 -- Assumes nothing.
 use mathlib.Core.Path.{_≡_, _∙_, ap, sym, refl}
 use mathlib.Core.Bool.{true, not}
-use Prim.Native.Nat.{ℕ, zero, suc, _+_, _-_, _*_, _/_, _%_, _^_, _<_}
+use Prim.Native.Nat.{ℕ, _+_, _-_, _*_, _/_, _%_, _^_, _<_}
 use native.Mathlib.Nat.{mod-lt, mod-eq-of-lt, div-add-mod', mul-comm}
 use native.Mathlib.Omega.{arith}
 use lib.Dec.{eqb}
@@ -14,7 +14,7 @@ use lib.Pow.{pow-pos, pow-add, high, shr-lt}
 use Rattle.alu.specs.declared.types.Size.{Size}
 use Rattle.alu.specs.Bits.{bitsOf, low, bit, join, complement}
 use Rattle.alu.specs.Arith.{difference}
-use Rattle.alu.proofs.Bounds.{low-lt}
+use Rattle.alu.proofs.Bounds.{low-lt, below-2}
 use Rattle.alu.proofs.Signed.{pow-half}
 use Rattle.alu.proofs.Turns.{bit-low}
 use Rattle.alu.proofs.Wide.{join-low}
@@ -28,9 +28,7 @@ parts J K q e q<J e<K =
     omega (arith, ap (λ (t : ℕ). t * K) is)
 
 flipped : (r : ℕ) → r < 2 → eqb (1 - r) 1 ≡ not (eqb r 1)
-flipped zero r<2 = refl
-flipped (suc zero) r<2 = refl
-flipped (suc (suc r)) r<2 = absurd (let none : ⊥ = omega arith in none)
+flipped = below-2 (λ r. eqb (1 - r) 1 ≡ not (eqb r 1)) refl refl
 
 pub complement-bit : (k n d : ℕ) → k < n → bit k (complement n d) ≡ not (bit k d)
 complement-bit k n d k<n =

@@ -6,12 +6,11 @@
 -- Assumes nothing.
 use mathlib.Core.Path.{_≡_, _∙_, ap, sym, refl}
 use mathlib.Core.Bool.{Bool, true, false}
-use Prim.Native.Nat.{ℕ, zero, suc, _+_, _-_, _*_, _%_, _^_, _≤_, _<_}
+use Prim.Native.Nat.{ℕ, suc, _+_, _-_, _*_, _%_, _^_, _≤_, _<_}
 use native.Mathlib.Nat.{mod-eq-of-lt, mul-add-mod-self-right}
 use native.Mathlib.Omega.{arith}
 use lib.Pow.{pow-pos, pow-add, pow-mono}
 use Rattle.alu.specs.Bits.{low, top, raised, signed, digit, extended}
-use Rattle.alu.proofs.Bounds.{low-lt}
 use Rattle.alu.proofs.Signed.{Reads, reads, pow-half}
 use Rattle.alu.proofs.Minus.{minus-same}
 use Rattle.alu.proofs.Integers.{signed-raised}

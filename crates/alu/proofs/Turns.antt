@@ -19,15 +19,13 @@ use Rattle.alu.specs.declared.shift_rotate.ShiftOp.the-variants.{Asl, As
 use Rattle.alu.specs.Bits.{low, bit, lowest, top, digit}
 use Rattle.alu.specs.Shifts.{left, right, turn, turns}
 use Rattle.alu.specs.Places.{above, below, fromAbove, fromBelow}
-use Rattle.alu.proofs.Bounds.{digit-le}
+use Rattle.alu.proofs.Bounds.{digit-le, below-2}
 use Rattle.alu.proofs.Signed.{pow-half}
 
 -- ---- bits and digits
 
 digit-below-2 : (r : ℕ) → r < 2 → digit (eqb r 1) ≡ r
-digit-below-2 zero h = refl
-digit-below-2 (suc zero) h = refl
-digit-below-2 (suc (suc r)) h = absurd (omega arith)
+digit-below-2 = below-2 (λ r. digit (eqb r 1) ≡ r) refl refl
 
 pub digit-lowest : (x : ℕ) → digit (lowest x) ≡ x % 2
 digit-lowest x = digit-below-2 (x % 2) (omega arith)

@@ -1,6 +1,6 @@
 -- `answer` meets its contract: in each arm the number is known, and `answerOf` computes.
 -- Assumes nothing.
-use mathlib.Core.Path.{_≡_, refl, sym, ap, _∙_}
+use mathlib.Core.Path.{refl, sym, ap, _∙_}
 use native.Mathlib.Omega.{arith}
 use borrow.Author.Needs.{needs}
 use Rattle.calls.specs.Packed.{operations, chosen, plain}

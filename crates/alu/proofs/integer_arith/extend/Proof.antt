@@ -1,6 +1,5 @@
 -- `extend` meets its contract: 2 ^ 32 and the signed reading, cut, are the filled bits.
 -- Assumes nothing.
-use native.Mathlib.Omega.{arith}
 use borrow.Author.Needs.{needs}
 use Rattle.alu.specs.Bits.{bitsOf}
 use Rattle.alu.proofs.Bounds.{bits-pos, bits-le}
