@@ -95,7 +95,10 @@ fn asked(word: Option<&str>) -> Option<Extent> {
     match word {
         None => asked(Some("3")),
         Some("short") => Some(SHORT),
-        Some(millions) => Some(Extent { every: 1, random: millions.parse::<u64>().ok()?.checked_mul(1_000_000)? }),
+        Some(word) => {
+            let millions: u64 = word.parse().ok()?;
+            Some(Extent { every: 1, random: millions.checked_mul(1_000_000 * PORT_SHARE)? / PORT_SHARE })
+        }
     }
 }
 
