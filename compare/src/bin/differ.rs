@@ -96,8 +96,8 @@ fn asked(word: Option<&str>) -> Option<Extent> {
         None => asked(Some("3")),
         Some("short") => Some(SHORT),
         Some(word) => {
-            let millions: u64 = word.parse().ok()?;
-            Some(Extent { every: 1, random: millions.checked_mul(1_000_000 * PORT_SHARE)? / PORT_SHARE })
+            let millions: u32 = word.parse().ok()?;
+            Some(Extent { every: 1, random: u64::from(millions) * 1_000_000 })
         }
     }
 }
