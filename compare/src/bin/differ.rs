@@ -14,7 +14,7 @@ use std::time::Instant;
 /// The port's share of random cases: with the default, over 10^9 cases.
 const PORT_SHARE: u64 = 3;
 
-/// The short run. `every` shares no factor with a number of settings, so that all settings are met.
+/// The short run. `every` is a prime, so that what it takes goes round the sources and the settings.
 const SHORT: Extent = Extent { every: 997, random: 2_000 };
 
 /// Operands of the requests whose numbers or flags stray: all zero, all set, a sum that carries.

@@ -86,6 +86,7 @@ operations =
     two 0x1c (bitopOf Bchg) ∷
     check 0x1d chkOf ∷ []
 
+-- a row's number, and what it does
 abbrev pub numberIn : Row → ℕ
 numberIn (two number of) = number
 numberIn (one number of) = number
