@@ -1,0 +1,32 @@
+use denote.Ref.{now}
+use mathlib.Core.Path.{sym}
+use native.Mathlib.Omega.{arith}
+use Prim.Native.Nat.{_≤_}
+use lib.ListN.{length, List·getD-eq-default}
+use borrow.Author.Needs.{needs}
+use Rattle.step.proofs.registers.read.Statement.{statement}
+use Rattle.step.proofs.registers.read.Tie as tie
+use Rattle.step.proofs.registers.read.Reads as reads
+use Rattle.step.proofs.registers.read.Lts as lts
+use Rattle.step.proofs.registers.wide.Reads as wide-reads
+
+wide-requires : tie.Need-wide-requires
+wide-requires c κs = search needs
+
+mul-result : tie.Need-mul-result
+mul-result c = search needs
+
+shared-slice-read-result : tie.Need-shared-slice-read-result
+shared-slice-read-result c = search needs
+
+returns : tie.Need-returns
+returns c = cc
+
+returns-2 : tie.Need-returns-2
+returns-2 c =
+    let xs = now (c .before .before .before .args .registers) in
+    let h : length xs ≤ c .before .before .before .args .r = omega arith in sym (List·getD-eq-default xs 0 h)
+
+pub read-spec : {M : Type 1} → statement M
+read-spec =
+    tie.close (tie.spec wide-requires mul-result shared-slice-read-result returns returns-2)

@@ -1,0 +1,37 @@
+use denote.Ref.{now}
+use mathlib.Core.Path.{sym}
+use native.Mathlib.Omega.{arith}
+use Prim.Native.Nat.{_≤_}
+use lib.ListN.{length}
+use lib.Seq.{set-out}
+use borrow.Author.Needs.{needs}
+use Rattle.step.proofs.registers.write.Statement.{statement}
+use Rattle.step.proofs.registers.write.Tie as tie
+use Rattle.step.proofs.registers.write.Reads as reads
+use Rattle.step.proofs.registers.write.Lts as lts
+use Rattle.step.proofs.registers.wide.Reads as wide-reads
+
+wide-requires : tie.Need-wide-requires
+wide-requires c κs = search needs
+
+mul-registers : tie.Need-mul-registers
+mul-registers c = search needs
+
+slice-write-registers : tie.Need-slice-write-registers
+slice-write-registers c = search needs
+
+same-length : tie.Need-same-length
+same-length c = search needs
+
+returns : tie.Need-returns
+returns c = cc
+
+returns-2 : tie.Need-returns-2
+returns-2 c =
+    let xs = now (c .before .before .before .args .registers) in
+    let h : length xs ≤ c .before .before .before .args .r = omega arith in sym (set-out _ _ _ h)
+
+pub write-spec : {M : Type 1} → statement M
+write-spec =
+    tie.close
+    (tie.spec wide-requires mul-registers slice-write-registers same-length returns returns-2)

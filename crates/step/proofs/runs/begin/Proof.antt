@@ -1,0 +1,32 @@
+use native.Mathlib.Omega.{arith}
+use borrow.Author.Tests.{le-leb, lt-leb}
+use Rattle.step.proofs.Running.{begun}
+use borrow.Author.Needs.{needs}
+use Rattle.step.proofs.runs.begin.Statement.{statement}
+use Rattle.step.proofs.runs.begin.Tie as tie
+use Rattle.step.proofs.runs.begin.Reads as reads
+use Rattle.step.proofs.runs.begin.Lts as lts
+use Rattle.step.proofs.runs.arrive.Reads as arrive-reads
+use Rattle.step.proofs.runs.most.Reads as most-reads
+use Rattle.step.proofs.runs.stop.Reads as stop-reads
+
+most-requires : tie.Need-most-requires
+most-requires c κs = search needs
+
+arrive-requires : tie.Need-arrive-requires
+arrive-requires c κs = search needs
+
+stop-requires : tie.Need-stop-requires
+stop-requires c κs = search needs
+
+returns : tie.Need-returns
+returns c =
+    let s = c .before .before .before .args in
+    begun (s .len) (s .start) (s .budget) (s .flags) (rw (le-leb _ _ (c .before .before .if1 .taken)) (rw (c .before .most .ensures) at (c .arrive .ensures))) (omega arith)
+
+returns-2 : tie.Need-returns-2
+returns-2 c =
+    let s = c .before .before .args in begun (s .len) (s .start) (s .budget) (s .flags) (rw (lt-leb _ _ (c .before .if1 .left)) (c .stop .ensures)) (omega arith)
+
+pub begin-spec : {M : Type 1} → statement M
+begin-spec = tie.close (tie.spec most-requires arrive-requires stop-requires returns returns-2)

@@ -1,0 +1,15 @@
+use borrow.Author.Tests.{lt-ltb, le-ltb}
+use borrow.Author.Needs.{needs}
+use Rattle.step.proofs.runs.end_at.Statement.{statement}
+use Rattle.step.proofs.runs.end_at.Tie as tie
+use Rattle.step.proofs.runs.end_at.Reads as reads
+use Rattle.step.proofs.runs.end_at.Lts as lts
+
+returns : tie.Need-returns
+returns c = rw (lt-ltb _ _ (c .if1 .taken))
+
+returns-2 : tie.Need-returns-2
+returns-2 c = rw (le-ltb _ _ (c .if1 .left))
+
+pub end-at-spec : {M : Type 1} → statement M
+end-at-spec = tie.close (tie.spec returns returns-2)

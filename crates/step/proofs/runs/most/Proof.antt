@@ -1,0 +1,21 @@
+use borrow.Author.Tests.{lt-ltb, le-ltb}
+use borrow.Author.Needs.{needs}
+use Rattle.step.proofs.runs.most.Statement.{statement}
+use Rattle.step.proofs.runs.most.Tie as tie
+use Rattle.step.proofs.runs.most.Reads as reads
+use Rattle.step.proofs.runs.most.Lts as lts
+
+sub-rest : tie.Need-sub-rest
+sub-rest c = search needs
+
+cast-result : tie.Need-cast-result
+cast-result c = search needs
+
+returns : tie.Need-returns
+returns c = rw (lt-ltb _ _ (c .if1 .taken))
+
+returns-2 : tie.Need-returns-2
+returns-2 c = rw (le-ltb _ _ (c .if1 .left))
+
+pub most-spec : {M : Type 1} → statement M
+most-spec = tie.close (tie.spec sub-rest cast-result returns returns-2)

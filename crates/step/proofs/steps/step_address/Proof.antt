@@ -1,0 +1,83 @@
+use denote.Ref.{now}
+use Rattle.step.specs.Course.{held}
+use Rattle.step.proofs.Stepping.{faulty-step, address-step}
+use borrow.Author.Needs.{needs}
+use Rattle.step.proofs.steps.step_address.Statement.{statement}
+use Rattle.step.proofs.steps.step_address.Tie as tie
+use Rattle.step.proofs.steps.step_address.Reads as reads
+use Rattle.step.proofs.steps.step_address.Lts as lts
+use Rattle.step.proofs.registers.read.Reads as read-reads
+use Rattle.step.proofs.registers.write.Reads as write-reads
+use Rattle.step.proofs.steps.both.Reads as both-reads
+use Rattle.step.proofs.steps.concluded.Reads as concluded-reads
+use Rattle.step.proofs.steps.not_byte.Reads as not-byte-reads
+use Rattle.step.proofs.steps.on_address.Reads as on-address-reads
+use Rattle.step.proofs.steps.place_there.Reads as place-there-reads
+use Rattle.step.proofs.steps.place_value.Reads as place-value-reads
+use Rattle.step.proofs.steps.refusal.Reads as refusal-reads
+use Rattle.step.proofs.steps.refused.Reads as refused-reads
+
+place-there-requires : tie.Need-place-there-requires
+place-there-requires c κs = search needs
+
+both-requires : tie.Need-both-requires
+both-requires c κs = search needs
+
+not-byte-requires : tie.Need-not-byte-requires
+not-byte-requires c κs = search needs
+
+refusal-requires : tie.Need-refusal-requires
+refusal-requires c κs = search needs
+
+enum-known-fault : tie.Need-enum-known-fault
+enum-known-fault c = search needs
+
+refused-requires : tie.Need-refused-requires
+refused-requires c κs = search needs
+
+enum-told : tie.Need-enum-told
+enum-told c = search needs
+
+place-value-requires : tie.Need-place-value-requires
+place-value-requires c κs = search needs
+
+read-requires : tie.Need-read-requires
+read-requires c κs = search needs
+
+on-address-requires : tie.Need-on-address-requires
+on-address-requires c κs = search needs
+
+write-requires : tie.Need-write-requires
+write-requires c κs = search needs
+
+concluded-requires : tie.Need-concluded-requires
+concluded-requires c κs = search needs
+
+returns : tie.Need-returns
+returns c =
+    let start = c .before .before .before .before .before .before .before .before .before in
+    faulty-step (held (now (start .args .d)) (now (start .args .a)) (start .args .flags)) _ (rw (c .before .before .before .before .before .not-byte .ensures, c .before .before .before .before .before .before .both .ensures, c .before .before .before .before .before .before .before .before .place-there .ensures) at (c .before .before .before .before .refusal .ensures)) (c .before .before .fault .given .1) (c .refused .ensures)
+
+returns-2 : tie.Need-returns-2
+returns-2 c =
+    let start = c .before .before .before .before .before .before .before .before .before .before .before .before .before .before .before .before in
+    address-step (held (now (start .args .d)) (now (start .args .a)) (start .args .flags)) (start .args .t) (rw (c .before .before .before .before .before .before .before .before .before .before .before .before .not-byte .ensures, c .before .before .before .before .before .before .before .before .before .before .before .before .before .both .ensures, c .before .before .before .before .before .before .before .before .before .before .before .before .before .before .before .place-there .ensures) at (c .before .before .before .before .before .before .before .before .before .before .before .refusal .ensures)) (c .before .before .before .before .before .before .before .before .before .enum-told .given .1) (c .concluded .ensures) (c .before .write .ensures) (rw (c .before .before .before .before .read .ensures, c .before .before .before .before .before .before .before .place-value .ensures (start .args .flags)) at (c .before .before .before .on-address .ensures))
+
+pub step-address-spec : {M : Type 1} → statement M
+step-address-spec =
+    tie.close
+    (tie.spec
+    place-there-requires
+    both-requires
+    not-byte-requires
+    refusal-requires
+    enum-known-fault
+    refused-requires
+    enum-told
+    place-value-requires
+    read-requires
+    on-address-requires
+    write-requires
+    concluded-requires
+    returns
+    returns-2)

@@ -1,0 +1,93 @@
+use denote.Ref.{now}
+use Rattle.step.specs.Course.{held}
+use Rattle.step.proofs.Stepping.{faulty-step, data-step}
+use borrow.Author.Needs.{needs}
+use Rattle.step.proofs.steps.step_bit.Statement.{statement}
+use Rattle.step.proofs.steps.step_bit.Tie as tie
+use Rattle.step.proofs.steps.step_bit.Reads as reads
+use Rattle.step.proofs.steps.step_bit.Lts as lts
+use Rattle.step.proofs.registers.merged.Reads as merged-reads
+use Rattle.step.proofs.registers.read.Reads as read-reads
+use Rattle.step.proofs.registers.write.Reads as write-reads
+use Rattle.step.proofs.steps.bit.Reads as bit-reads
+use Rattle.step.proofs.steps.bit_number.Reads as bit-number-reads
+use Rattle.step.proofs.steps.both.Reads as both-reads
+use Rattle.step.proofs.steps.concluded.Reads as concluded-reads
+use Rattle.step.proofs.steps.count_there.Reads as count-there-reads
+use Rattle.step.proofs.steps.count_within.Reads as count-within-reads
+use Rattle.step.proofs.steps.is_long.Reads as is-long-reads
+use Rattle.step.proofs.steps.refusal.Reads as refusal-reads
+use Rattle.step.proofs.steps.refused.Reads as refused-reads
+
+count-there-requires : tie.Need-count-there-requires
+count-there-requires c κs = search needs
+
+both-requires : tie.Need-both-requires
+both-requires c κs = search needs
+
+is-long-requires : tie.Need-is-long-requires
+is-long-requires c κs = search needs
+
+count-within-requires : tie.Need-count-within-requires
+count-within-requires c κs = search needs
+
+refusal-requires : tie.Need-refusal-requires
+refusal-requires c κs = search needs
+
+enum-known-fault : tie.Need-enum-known-fault
+enum-known-fault c = search needs
+
+refused-requires : tie.Need-refused-requires
+refused-requires c κs = search needs
+
+enum-told : tie.Need-enum-told
+enum-told c = search needs
+
+bit-number-requires : tie.Need-bit-number-requires
+bit-number-requires c κs = search needs
+
+read-requires : tie.Need-read-requires
+read-requires c κs = search needs
+
+bit-requires : tie.Need-bit-requires
+bit-requires c κs = search needs
+
+merged-requires : tie.Need-merged-requires
+merged-requires c κs = search needs
+
+write-requires : tie.Need-write-requires
+write-requires c κs = search needs
+
+concluded-requires : tie.Need-concluded-requires
+concluded-requires c κs = search needs
+
+returns : tie.Need-returns
+returns c a =
+    let start = c .before .before .before .before .before .before .before .before .before .before in
+    faulty-step (held (now (start .args .d)) a (start .args .flags)) _ (rw (c .before .before .before .before .before .count-within .ensures, c .before .before .before .before .before .before .is-long .ensures, c .before .before .before .before .before .before .before .both .ensures, c .before .before .before .before .before .before .before .before .before .count-there .ensures) at (c .before .before .before .before .refusal .ensures)) (c .before .before .fault .given .1) (c .refused .ensures)
+
+returns-2 : tie.Need-returns-2
+returns-2 c a =
+    let start = c .before .before .before .before .before .before .before .before .before .before .before .before .before .before .before .before .before .before in
+    data-step (held (now (start .args .d)) a (start .args .flags)) (start .args .size) (start .args .t) (rw (c .before .before .before .before .before .before .before .before .before .before .before .before .before .count-within .ensures, c .before .before .before .before .before .before .before .before .before .before .before .before .before .before .is-long .ensures, c .before .before .before .before .before .before .before .before .before .before .before .before .before .before .before .both .ensures, c .before .before .before .before .before .before .before .before .before .before .before .before .before .before .before .before .before .count-there .ensures) at (c .before .before .before .before .before .before .before .before .before .before .before .before .refusal .ensures)) (c .before .before .before .before .before .before .before .before .before .before .enum-told .given .1) (c .concluded .ensures) (c .before .write .ensures) (rw (c .before .before .before .before .before .read .ensures) at (c .before .before .merged .ensures)) (rw (c .before .before .before .before .before .read .ensures, c .before .before .before .before .before .before .before .before .bit-number .ensures a (start .args .flags)) at (c .before .before .before .before .bit .ensures))
+
+pub step-bit-spec : {M : Type 1} → statement M
+step-bit-spec =
+    tie.close
+    (tie.spec
+    count-there-requires
+    both-requires
+    is-long-requires
+    count-within-requires
+    refusal-requires
+    enum-known-fault
+    refused-requires
+    enum-told
+    bit-number-requires
+    read-requires
+    bit-requires
+    merged-requires
+    write-requires
+    concluded-requires
+    returns
+    returns-2)

@@ -1,0 +1,77 @@
+use denote.Ref.{now}
+use Rattle.step.specs.Course.{held}
+use Rattle.step.proofs.Stepping.{faulty-step, data-step}
+use borrow.Author.Needs.{needs}
+use Rattle.step.proofs.steps.step_two.Statement.{statement}
+use Rattle.step.proofs.steps.step_two.Tie as tie
+use Rattle.step.proofs.steps.step_two.Reads as reads
+use Rattle.step.proofs.steps.step_two.Lts as lts
+use Rattle.step.proofs.registers.merged.Reads as merged-reads
+use Rattle.step.proofs.registers.read.Reads as read-reads
+use Rattle.step.proofs.registers.write.Reads as write-reads
+use Rattle.step.proofs.steps.both.Reads as both-reads
+use Rattle.step.proofs.steps.concluded.Reads as concluded-reads
+use Rattle.step.proofs.steps.refusal.Reads as refusal-reads
+use Rattle.step.proofs.steps.refused.Reads as refused-reads
+use Rattle.step.proofs.steps.two.Reads as two-reads
+
+both-requires : tie.Need-both-requires
+both-requires c κs = search needs
+
+refusal-requires : tie.Need-refusal-requires
+refusal-requires c κs = search needs
+
+enum-known-fault : tie.Need-enum-known-fault
+enum-known-fault c = search needs
+
+refused-requires : tie.Need-refused-requires
+refused-requires c κs = search needs
+
+enum-told : tie.Need-enum-told
+enum-told c = search needs
+
+read-requires : tie.Need-read-requires
+read-requires c κs = search needs
+
+read-requires-2 : tie.Need-read-requires-2
+read-requires-2 c κs = search needs
+
+two-requires : tie.Need-two-requires
+two-requires c κs = search needs
+
+merged-requires : tie.Need-merged-requires
+merged-requires c κs = search needs
+
+write-requires : tie.Need-write-requires
+write-requires c κs = search needs
+
+concluded-requires : tie.Need-concluded-requires
+concluded-requires c κs = search needs
+
+returns : tie.Need-returns
+returns c a =
+    let start = c .before .before .before .before .before .before .before .before in
+    faulty-step (held (now (start .args .d)) a (start .args .flags)) _ (rw (c .before .before .before .before .before .both .ensures) at (c .before .before .before .before .refusal .ensures)) (c .before .before .fault .given .1) (c .refused .ensures)
+
+returns-2 : tie.Need-returns-2
+returns-2 c a =
+    let start = c .before .before .before .before .before .before .before .before .before .before .before .before .before .before .before .before .before in
+    data-step (held (now (start .args .d)) a (start .args .flags)) (start .args .size) (start .args .t) (rw (c .before .before .before .before .before .before .before .before .before .before .before .before .before .before .both .ensures) at (c .before .before .before .before .before .before .before .before .before .before .before .before .before .refusal .ensures)) (c .before .before .before .before .before .before .before .before .before .before .before .enum-told .given .1) (c .concluded .ensures) (c .before .write .ensures) (rw (c .before .before .before .before .before .read2 .ensures) at (c .before .before .merged .ensures)) (rw (c .before .before .before .before .before .read2 .ensures, c .before .before .before .before .before .before .before .before .read .ensures) at (c .before .before .before .before .two .ensures))
+
+pub step-two-spec : {M : Type 1} → statement M
+step-two-spec =
+    tie.close
+    (tie.spec
+    both-requires
+    refusal-requires
+    enum-known-fault
+    refused-requires
+    enum-told
+    read-requires
+    read-requires-2
+    two-requires
+    merged-requires
+    write-requires
+    concluded-requires
+    returns
+    returns-2)

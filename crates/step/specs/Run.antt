@@ -1,0 +1,76 @@
+-- A run of a listing: document 01, "Steps and runs". It is defined by recursion on the budget, from a place, over any step function f. The tests
+-- stand in document 01's order: past the end; at the end; the budget spent; then the step. Assumes nothing.
+use Prim.Native.Nat.{ℕ, zero, suc, _+_}
+use mathlib.Core.Bool.{Bool, true, false}
+use mathlib.Core.List.{List, [], _∷_}
+use Rattle.step.specs.declared.registers.State.{State}
+use Rattle.step.specs.declared.steps.Step.{Step}
+use Rattle.step.specs.declared.steps.Fault.the-variants.{StartPastEnd}
+use Rattle.step.specs.declared.steps.Outcome.{Outcome}
+use Rattle.step.specs.declared.steps.Outcome.the-variants.{Done, Trapped, Refused}
+use Rattle.step.specs.declared.steps.Performed.{Performed}
+use Rattle.step.specs.declared.runs.End.{End}
+use Rattle.step.specs.declared.runs.End.the-variants as End
+use Rattle.step.specs.declared.runs.Ran.{Ran}
+
+-- what stands at a place of a listing: a step, its end, or nothing
+pub data Spot : Type 0 where
+  here : Step → Spot
+  atEnd : Spot
+  pastEnd : Spot
+
+abbrev pub spotOf : List Step → (p : ℕ) → Spot
+spotOf [] zero = atEnd
+spotOf [] (suc p) = pastEnd
+spotOf (k ∷ ks) zero = here k
+spotOf (k ∷ ks) (suc p) = spotOf ks p
+
+-- a run that ends at place p before it takes a step
+abbrev pub ends : End → State → (p : ℕ) → Ran
+ends e s p = record { end = e; state = s; next = p; steps = 0; clocks = 0 }
+
+-- one step of c clocks, and then a run
+abbrev pub counted : (c : ℕ) → Ran → Ran
+counted c r = record { end = r .end; state = r .state; next = r .next; steps = suc (r .steps); clocks = c + r .clocks }
+
+-- The step at place p was performed as o. Done: it is counted, and the run goes on, from o's state and the place after p. A trap is counted and
+-- ends the run; the next place is after it. A refused step is not counted and is the next place.
+abbrev pub followed : Outcome → Performed → (p : ℕ) → (on : State → ℕ → Ran) → Ran
+followed Done o p on = counted (o .clocks) (on (o .state) (suc p))
+followed (Trapped trap) o p on = counted (o .clocks) (ends (End.Trapped trap p) (o .state) (suc p))
+followed (Refused fault) o p on = ends (End.Refused fault p) (o .state) p
+
+-- the tests of a place; `on` is what a spent budget or the step makes of it
+abbrev pub met : Spot → State → (p : ℕ) → (on : Step → Ran) → Ran
+met pastEnd s p on = ends (End.Refused StartPastEnd p) s p
+met atEnd s p on = ends End.Finished s p
+met (here k) s p on = on k
+
+-- the run of the listing l from state s and place p, with the budget b
+module _ (f : State → Step → Performed) (l : List Step) where
+  unfoldable pub runOf : State → (p b : ℕ) → Ran
+  runOf s p zero = met (spotOf l p) s p (λ k. ends End.Budget s p)
+  runOf s p (suc b) = met (spotOf l p) s p (λ k. followed (f s k .outcome) (f s k) p (λ t q. runOf t q b))
+
+-- ---- what the laws of a run speak of (proofs/Laws)
+
+-- n steps and c clocks, and then a run
+abbrev pub after : (n c : ℕ) → Ran → Ran
+after n c r = record { end = r .end; state = r .state; next = r .next; steps = n + r .steps; clocks = c + r .clocks }
+
+-- neither trapped nor refused
+abbrev pub goesOn : End → Bool
+goesOn End.Finished = true
+goesOn End.Budget = true
+goesOn (End.Trapped trap p) = false
+goesOn (End.Refused fault p) = false
+
+-- a run that is halted after the budget b and after each of bs but the last, and continued: state and place are kept, steps and figures add
+module _ (f : State → Step → Performed) (l : List Step) where
+  abbrev pub runInParts : State → (p b : ℕ) → (bs : List ℕ) → Ran
+  runInParts s p b [] = runOf f l s p b
+  runInParts s p b (c ∷ bs) = let r = runOf f l s p b in after (r .steps) (r .clocks) (runInParts (r .state) (r .next) c bs)
+
+abbrev pub total : (b : ℕ) → (bs : List ℕ) → ℕ
+total b [] = b
+total b (c ∷ bs) = b + total c bs

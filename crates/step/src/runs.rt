@@ -1,0 +1,196 @@
+// A run of a listing of steps with a budget.
+ghost use mathlib.Core.Path.{_≡_};
+ghost use mathlib.Core.Bool.{true, cond};
+ghost use Prim.Native.Nat.{_<_, _≤_, _*_, _^_};
+ghost use lib.Dec.{ltb};
+ghost use lib.ListN.{take};
+ghost use Rattle.step.specs.Perform.{performOf};
+ghost use Rattle.step.specs.Run.{runOf};
+ghost use Rattle.step.specs.Course.{held, stopped, endAt, arriveOf, mostOf, beginOf, Advanced, ranOf, Ready};
+use super::registers::State;
+use super::steps::Fault;
+use super::steps::Outcome;
+use super::steps::Step;
+use super::steps::Trap;
+use super::steps::perform_on;
+use alu::types::Flags;
+
+// How a run ends; a trap and a refusal with their place.
+pub enum End {
+    Finished,
+    Budget,
+    Trapped(Trap, usize),
+    Refused(Fault, usize),
+}
+
+// What a run hands back. `next` is the place to go on from; `clocks` is the sum of the steps' figures.
+pub struct Ran {
+    pub end: End,
+    pub state: State,
+    pub next: usize,
+    pub steps: u32,
+    pub clocks: u64,
+}
+
+// Where a run stands between two steps: whether it goes on, and how it ends if not; the steps that it may still take
+// (what is left of the budget, but no more than stand before the end), the next place, the figures so far, and the
+// flags. The registers are not in it: each step is lent them.
+pub(crate) struct Course {
+    pub going: bool,
+    pub end: End,
+    pub left: u32,
+    pub next: usize,
+    pub clocks: u64,
+    pub flags: Flags,
+}
+
+// How a run ends that takes no step more at a place of a listing of `len` steps, or at its end.
+fn end_at(len: usize, next: usize) -> End
+    ensures { λ r. ⌜ r ≡ endAt len next ⌝ }
+{
+    if next < len {
+        End::Budget
+    } else {
+        End::Finished
+    }
+}
+
+// At such a place. The flags go over one by one, as in alu::types::accepted.
+fn arrive(len: usize, left: u32, next: usize, clocks: u64, flags: Flags) -> Course
+    ensures { λ r. ⌜ r ≡ arriveOf len left next clocks flags ⌝ }
+{
+    let end = end_at(len, next);
+    Course {
+        going: 0 < left,
+        end,
+        left,
+        next,
+        clocks,
+        flags: Flags {
+            x: flags.x,
+            n: flags.n,
+            z: flags.z,
+            v: flags.v,
+            c: flags.c,
+        },
+    }
+}
+
+// A run that has ended.
+fn stop(end: End, left: u32, next: usize, clocks: u64, flags: Flags) -> Course
+    ensures { λ r. ⌜ r ≡ stopped end left next clocks flags ⌝ }
+{
+    Course {
+        going: false,
+        end,
+        left,
+        next,
+        clocks,
+        flags: Flags {
+            x: flags.x,
+            n: flags.n,
+            z: flags.z,
+            v: flags.v,
+            c: flags.c,
+        },
+    }
+}
+
+// The steps that a run may take: one count, so that the loop has one to test.
+fn most(len: usize, start: usize, budget: u32) -> u32
+    requires { ⌜ start ≤ len ⌝ }
+    ensures { λ r. ⌜ r ≡ mostOf len start budget ⌝ }
+{
+    let rest = len - start;
+    if rest < budget as usize { rest as u32 } else { budget }
+}
+
+// Where a run starts.
+pub(crate) fn begin(len: usize, start: usize, budget: u32, flags: Flags) -> Course
+    ensures { λ r. ⌜ (r ≡ beginOf len start budget flags) × (r .going ≡ true → Ready len r) ⌝ }
+{
+    if start <= len {
+        let left = most(len, start, budget);
+        arrive(len, left, start, 0, flags)
+    } else {
+        stop(End::Refused(Fault::StartPastEnd, start), 0, start, 0, flags)
+    }
+}
+
+// One step of a run that goes on.
+pub(crate) fn advance(
+    d: &mut [u32; 8],
+    a: &mut [u32; 8],
+    len: usize,
+    on: Course,
+    step: Step,
+) -> Course
+    requires { ⌜ Ready len on ⌝ }
+    ensures { λ r. ⌜ (Advanced len on (performOf (held (now (d .entry)) (now (a .entry)) (on .flags)) step) (now (d .exit)) (now (a .exit)) r) × ((r .left ≤ on .left) × (r .going ≡ true → Ready len r)) ⌝ }
+{
+    let before = on.flags;
+    let size = step.size;
+    let form = step.form;
+    let acted = perform_on(d, a, before, size, form);
+    let flags = acted.flags;
+    let outcome = acted.outcome;
+    let at = on.next;
+    let left = on.left - 1;
+    let next = at + 1;
+    let figure = wide(acted.clocks);
+    let clocks = on.clocks + figure;
+    match outcome {
+        Outcome::Done => arrive(len, left, next, clocks, flags),
+        Outcome::Trapped(trap) => stop(End::Trapped(trap, at), left, next, clocks, flags),
+        Outcome::Refused(fault) => stop(End::Refused(fault, at), on.left, at, on.clocks, flags),
+    }
+}
+
+// What a run that has ended hands back; `first` is what it might take at its start.
+pub(crate) fn ended(d: [u32; 8], a: [u32; 8], first: u32, on: Course) -> Ran
+    requires { ⌜ on .left ≤ first ⌝ }
+    ensures { λ r. ⌜ r ≡ ranOf d a first on ⌝ }
+{
+    let end = on.end;
+    let flags = on.flags;
+    let steps = first - on.left;
+    Ran {
+        end,
+        state: State { d, a, flags },
+        next: on.next,
+        steps,
+        clocks: on.clocks,
+    }
+}
+
+// A run of a listing that stands in an array, in its first `count` steps.
+pub fn run_array(listing: [Step; 256], count: usize, state: State, start: usize, budget: u32) -> Ran
+    ensures { λ r. ⌜ r ≡ runOf performOf (take count listing) state start budget ⌝ }
+{
+    let len = lesser(count, 256);
+    let mut d = state.d;
+    let mut a = state.a;
+    let flags = state.flags;
+    let mut on = begin(len, start, budget, flags);
+    let first = on.left;
+    let mut going = on.going;
+    while going {
+        let at = on.next;
+        let step = listing[at];
+        on = advance(&mut d, &mut a, len, on, step);
+        going = on.going;
+    }
+    ended(d, a, first, on)
+}
+
+fn lesser(a: usize, b: usize) -> usize
+    ensures { λ r. ⌜ r ≡ cond (ltb a b) a b ⌝ }
+{
+    if a < b { a } else { b }
+}
+
+fn wide(x: u32) -> u64
+    ensures { λ r. ⌜ (r ≡ x) × (r < 2 ^ 32) ⌝ }
+{
+    x as u64
+}

@@ -1,0 +1,594 @@
+// One step: on registers that are lent, and by value.
+ghost use mathlib.Core.Path.{_≡_};
+ghost use mathlib.Core.Bool.{_&&_};
+ghost use mathlib.Core.List.{List};
+ghost use Prim.Native.Nat.{ℕ, _<_};
+ghost use Rattle.alu.specs.Shifts.{shiftOf};
+ghost use Rattle.alu.specs.Bitops.{bitopOf};
+ghost use Rattle.step.specs.declared.steps.Form.the-variants as Form;
+ghost use Rattle.step.specs.declared.steps.Place.the-variants as Place;
+ghost use Rattle.step.specs.Perform.{numberOf, classOf, refusalOf, placeThere, countThere, within, countWithin};
+ghost use Rattle.step.specs.Perform.{notByte, isWord, isLong, quickSize, oneSize, twoOf, onAddressOf, quickOf, quickAddressOf, oneOf};
+ghost use Rattle.step.specs.Perform.{placeValue, countValue, outcomeOf, performOf};
+ghost use Rattle.step.specs.Course.{held, leaving, saidOf, refusedOf, stepOf};
+use super::registers::A;
+use super::registers::D;
+use super::registers::State;
+use super::registers::merged;
+use super::registers::read;
+use super::registers::write;
+use alu::bit_manip::BitOp;
+use alu::bit_manip::exec_bchg;
+use alu::bit_manip::exec_bclr;
+use alu::bit_manip::exec_bset;
+use alu::bit_manip::exec_btst;
+use alu::integer_arith::exec_add;
+use alu::integer_arith::exec_adda;
+use alu::integer_arith::exec_addq;
+use alu::integer_arith::exec_addq_address;
+use alu::integer_arith::exec_addx;
+use alu::integer_arith::exec_chk;
+use alu::integer_arith::exec_clr;
+use alu::integer_arith::exec_cmp;
+use alu::integer_arith::exec_cmpa;
+use alu::integer_arith::exec_ext;
+use alu::integer_arith::exec_neg;
+use alu::integer_arith::exec_negx;
+use alu::integer_arith::exec_not;
+use alu::integer_arith::exec_sub;
+use alu::integer_arith::exec_suba;
+use alu::integer_arith::exec_subq;
+use alu::integer_arith::exec_subq_address;
+use alu::integer_arith::exec_subx;
+use alu::shift_rotate::ShiftOp;
+use alu::shift_rotate::exec_asl;
+use alu::shift_rotate::exec_asr;
+use alu::shift_rotate::exec_lsl;
+use alu::shift_rotate::exec_lsr;
+use alu::shift_rotate::exec_rol;
+use alu::shift_rotate::exec_ror;
+use alu::shift_rotate::exec_roxl;
+use alu::shift_rotate::exec_roxr;
+use alu::types::Answer;
+use alu::types::Check;
+use alu::types::Flags;
+use alu::types::Size;
+
+pub enum TwoOp {
+    Add,
+    Sub,
+    Cmp,
+    Addx,
+    Subx,
+}
+
+pub enum AddressOp {
+    Adda,
+    Suba,
+    Cmpa,
+}
+
+pub enum QuickOp {
+    Addq,
+    Subq,
+}
+
+pub enum OneOp {
+    Clr,
+    Neg,
+    Negx,
+    Not,
+    Ext,
+}
+
+// A register of either kind.
+pub enum Place {
+    Data(D),
+    Address(A),
+}
+
+// A shift's count or a bit's number: a small number, or what a data register holds.
+pub enum Count {
+    Small(u8),
+    Data(D),
+}
+
+// The forms of document 01, source before destination. No other operand kind can be written.
+pub enum Form {
+    Two(TwoOp, D, D),
+    Address(AddressOp, Place, A),
+    Quick(QuickOp, u8, Place),
+    One(OneOp, D),
+    Shift(ShiftOp, Count, D),
+    Bit(BitOp, Count, D),
+    Chk(D, D),
+}
+
+pub struct Step {
+    pub size: Size,
+    pub form: Form,
+}
+
+// Why a step, or a run, is refused: document 01's numbers 1, 2, 3 and 10.
+pub enum Fault {
+    BadSmall,
+    NoSuchSize,
+    NoSuchRegister,
+    StartPastEnd,
+}
+
+// The class of a CHK that traps.
+pub enum Trap {
+    Over,
+    Short,
+    Below,
+}
+
+pub enum Outcome {
+    Done,
+    Trapped(Trap),
+    Refused(Fault),
+}
+
+// What a step hands back: its outcome, the registers and flags after it, its clock figure.
+pub struct Performed {
+    pub outcome: Outcome,
+    pub state: State,
+    pub clocks: u32,
+}
+
+// Whether a step may be done.
+enum Verdict {
+    Sound,
+    Faulty(Fault),
+}
+
+// What a step says beside the registers that it leaves.
+pub(crate) struct Acted {
+    pub outcome: Outcome,
+    pub flags: Flags,
+    pub clocks: u32,
+}
+
+// Document 01's number of a refusal.
+pub fn number(fault: Fault) -> u32
+    ensures { λ r. ⌜ r ≡ numberOf fault ⌝ }
+{
+    match fault {
+        Fault::BadSmall => 1,
+        Fault::NoSuchSize => 2,
+        Fault::NoSuchRegister => 3,
+        Fault::StartPastEnd => 10,
+    }
+}
+
+// The number of a trap's class, as alu::types::class has it.
+pub fn class(trap: Trap) -> u32
+    ensures { λ r. ⌜ r ≡ classOf trap ⌝ }
+{
+    match trap {
+        Trap::Over => 1,
+        Trap::Short => 2,
+        Trap::Below => 3,
+    }
+}
+
+// The order of the tests: 3, 2, 1.
+fn refusal(registers: bool, size: bool, small: bool) -> Verdict
+    ensures { λ r. ⌜ r ≡ refusalOf registers size small ⌝ }
+{
+    if registers {
+        if size {
+            if small {
+                Verdict::Sound
+            } else {
+                Verdict::Faulty(Fault::BadSmall)
+            }
+        } else {
+            Verdict::Faulty(Fault::NoSuchSize)
+        }
+    } else {
+        Verdict::Faulty(Fault::NoSuchRegister)
+    }
+}
+
+fn both(a: bool, b: bool) -> bool
+    ensures { λ r. ⌜ r ≡ a && b ⌝ }
+{
+    if a { b } else { false }
+}
+
+fn is_word(size: Size) -> bool
+    ensures { λ r. ⌜ r ≡ isWord size ⌝ }
+{
+    match size {
+        Size::Byte => false,
+        Size::Word => true,
+        Size::Long => false,
+    }
+}
+
+fn is_long(size: Size) -> bool
+    ensures { λ r. ⌜ r ≡ isLong size ⌝ }
+{
+    match size {
+        Size::Byte => false,
+        Size::Word => false,
+        Size::Long => true,
+    }
+}
+
+fn not_byte(size: Size) -> bool
+    ensures { λ r. ⌜ r ≡ notByte size ⌝ }
+{
+    match size {
+        Size::Byte => false,
+        Size::Word => true,
+        Size::Long => true,
+    }
+}
+
+// EXT has no byte form.
+fn one_size(op: OneOp, size: Size) -> bool
+    ensures { λ r. ⌜ r ≡ oneSize op size ⌝ }
+{
+    match op {
+        OneOp::Clr => true,
+        OneOp::Neg => true,
+        OneOp::Negx => true,
+        OneOp::Not => true,
+        OneOp::Ext => not_byte(size),
+    }
+}
+
+fn place_there(p: Place) -> bool
+    ensures { λ r. ⌜ r ≡ placeThere p ⌝ }
+{
+    match p {
+        Place::Data(r) => r.0 < 8,
+        Place::Address(r) => r.0 < 8,
+    }
+}
+
+fn count_there(c: Count) -> bool
+    ensures { λ r. ⌜ r ≡ countThere c ⌝ }
+{
+    match c {
+        Count::Small(_) => true,
+        Count::Data(r) => r.0 < 8,
+    }
+}
+
+fn within(least: u8, most: u8, k: u8) -> bool
+    ensures { λ r. ⌜ r ≡ within least most k ⌝ }
+{
+    both(least <= k, k <= most)
+}
+
+fn count_within(least: u8, most: u8, c: Count) -> bool
+    ensures { λ r. ⌜ r ≡ countWithin least most c ⌝ }
+{
+    match c {
+        Count::Small(k) => within(least, most, k),
+        Count::Data(_) => true,
+    }
+}
+
+fn two(op: TwoOp, size: Size, src: u32, dst: u32, flags: Flags) -> Answer
+    ensures { λ r. ⌜ r ≡ twoOf op size src dst flags ⌝ }
+{
+    match op {
+        TwoOp::Add => exec_add(size, src, dst, flags),
+        TwoOp::Sub => exec_sub(size, src, dst, flags),
+        TwoOp::Cmp => exec_cmp(size, src, dst, flags),
+        TwoOp::Addx => exec_addx(size, src, dst, flags),
+        TwoOp::Subx => exec_subx(size, src, dst, flags),
+    }
+}
+
+fn on_address(op: AddressOp, size: Size, src: u32, dst: u32, flags: Flags) -> Answer
+    ensures { λ r. ⌜ r ≡ onAddressOf op size src dst flags ⌝ }
+{
+    match op {
+        AddressOp::Adda => exec_adda(size, src, dst, flags),
+        AddressOp::Suba => exec_suba(size, src, dst, flags),
+        AddressOp::Cmpa => exec_cmpa(size, src, dst, flags),
+    }
+}
+
+fn quick(op: QuickOp, size: Size, small: u32, dst: u32, flags: Flags) -> Answer
+    ensures { λ r. ⌜ r ≡ quickOf op size small dst flags ⌝ }
+{
+    match op {
+        QuickOp::Addq => exec_addq(size, small, dst, flags),
+        QuickOp::Subq => exec_subq(size, small, dst, flags),
+    }
+}
+
+fn quick_address(op: QuickOp, size: Size, small: u32, dst: u32, flags: Flags) -> Answer
+    ensures { λ r. ⌜ r ≡ quickAddressOf op size small dst flags ⌝ }
+{
+    match op {
+        QuickOp::Addq => exec_addq_address(size, small, dst, flags),
+        QuickOp::Subq => exec_subq_address(size, small, dst, flags),
+    }
+}
+
+fn one(op: OneOp, size: Size, dst: u32, flags: Flags) -> Answer
+    ensures { λ r. ⌜ r ≡ oneOf op size dst flags ⌝ }
+{
+    match op {
+        OneOp::Clr => exec_clr(size, flags),
+        OneOp::Neg => exec_neg(size, dst, flags),
+        OneOp::Negx => exec_negx(size, dst, flags),
+        OneOp::Not => exec_not(size, dst, flags),
+        OneOp::Ext => exec_ext(size, dst, flags),
+    }
+}
+
+fn shift(op: ShiftOp, size: Size, count: u32, dst: u32, flags: Flags) -> Answer
+    ensures { λ r. ⌜ r ≡ shiftOf op size count dst flags ⌝ }
+{
+    match op {
+        ShiftOp::Asl => exec_asl(size, count, dst, flags),
+        ShiftOp::Asr => exec_asr(size, count, dst, flags),
+        ShiftOp::Lsl => exec_lsl(size, count, dst, flags),
+        ShiftOp::Lsr => exec_lsr(size, count, dst, flags),
+        ShiftOp::Rol => exec_rol(size, count, dst, flags),
+        ShiftOp::Ror => exec_ror(size, count, dst, flags),
+        ShiftOp::Roxl => exec_roxl(size, count, dst, flags),
+        ShiftOp::Roxr => exec_roxr(size, count, dst, flags),
+    }
+}
+
+fn bit(op: BitOp, size: Size, number: u32, dst: u32, flags: Flags) -> Answer
+    ensures { λ r. ⌜ r ≡ bitopOf op size number dst flags ⌝ }
+{
+    match op {
+        BitOp::Btst => exec_btst(size, number, dst, flags),
+        BitOp::Bset => exec_bset(size, number, dst, flags),
+        BitOp::Bclr => exec_bclr(size, number, dst, flags),
+        BitOp::Bchg => exec_bchg(size, number, dst, flags),
+    }
+}
+
+fn place_value(d: &[u32; 8], a: &[u32; 8], p: Place) -> u32
+    ensures { λ r. ⌜ ((f : Flags) → r ≡ placeValue (held (now (d .entry)) (now (a .entry)) f) p) ⌝ }
+{
+    match p {
+        Place::Data(r) => read(d, r.0),
+        Place::Address(r) => read(a, r.0),
+    }
+}
+
+// A register as a shift's count is taken mod 64, as a bit's number mod 32.
+fn shift_count(d: &[u32; 8], c: Count) -> u32
+    ensures { λ r. ⌜ ((a : List ℕ) (f : Flags) → r ≡ countValue (held (now (d .entry)) a f) 64 c) ⌝ }
+{
+    match c {
+        Count::Small(k) => wide(k),
+        Count::Data(r) => read(d, r.0) % 64,
+    }
+}
+
+fn bit_number(d: &[u32; 8], c: Count) -> u32
+    ensures { λ r. ⌜ ((a : List ℕ) (f : Flags) → r ≡ countValue (held (now (d .entry)) a f) 32 c) ⌝ }
+{
+    match c {
+        Count::Small(k) => wide(k),
+        Count::Data(r) => read(d, r.0) % 32,
+    }
+}
+
+fn outcome_of(check: Check) -> Outcome
+    ensures { λ r. ⌜ r ≡ outcomeOf check ⌝ }
+{
+    match check {
+        Check::Pass => Outcome::Done,
+        Check::Over => Outcome::Trapped(Trap::Over),
+        Check::Short => Outcome::Trapped(Trap::Short),
+        Check::Below => Outcome::Trapped(Trap::Below),
+    }
+}
+
+// What a step says once the operation has answered: the one place that asks for its clock figure. The
+// flags go over one by one, as in alu::types::accepted.
+fn concluded(outcome: Outcome, answer: Answer) -> Acted
+    ensures { λ r. ⌜ r ≡ saidOf outcome answer ⌝ }
+{
+    Acted {
+        outcome,
+        flags: Flags {
+            x: answer.flags.x,
+            n: answer.flags.n,
+            z: answer.flags.z,
+            v: answer.flags.v,
+            c: answer.flags.c,
+        },
+        clocks: answer.clocks,
+    }
+}
+
+// What a refused step says: it changes nothing.
+fn refused(fault: Fault, flags: Flags) -> Acted
+    ensures { λ r. ⌜ r ≡ refusedOf fault flags ⌝ }
+{
+    Acted {
+        outcome: Outcome::Refused(fault),
+        flags: Flags {
+            x: flags.x,
+            n: flags.n,
+            z: flags.z,
+            v: flags.v,
+            c: flags.c,
+        },
+        clocks: 0,
+    }
+}
+
+fn step_two(d: &mut [u32; 8], flags: Flags, size: Size, op: TwoOp, s: D, t: D) -> Acted
+    ensures { λ r. ⌜ ((a : List ℕ) → leaving (now (d .exit)) a r ≡ performOf (held (now (d .entry)) a flags) (stepOf size (Form.Two op s t))) ⌝ }
+{
+    match refusal(both(s.0 < 8, t.0 < 8), true, true) {
+        Verdict::Faulty(fault) => refused(fault, flags),
+        Verdict::Sound => {
+            let src = read(d, s.0);
+            let dst = read(d, t.0);
+            let answer = two(op, size, src, dst, flags);
+            write(d, t.0, merged(size, dst, answer.result));
+            concluded(Outcome::Done, answer)
+        }
+    }
+}
+
+fn step_address(d: &[u32; 8], a: &mut [u32; 8], flags: Flags, size: Size, op: AddressOp, p: Place, t: A) -> Acted
+    ensures { λ r. ⌜ leaving (now (d .entry)) (now (a .exit)) r ≡ performOf (held (now (d .entry)) (now (a .entry)) flags) (stepOf size (Form.Address op p t)) ⌝ }
+{
+    match refusal(both(place_there(p), t.0 < 8), not_byte(size), true) {
+        Verdict::Faulty(fault) => refused(fault, flags),
+        Verdict::Sound => {
+            let src = place_value(d, a, p);
+            let dst = read(a, t.0);
+            let answer = on_address(op, size, src, dst, flags);
+            write(a, t.0, answer.result);
+            concluded(Outcome::Done, answer)
+        }
+    }
+}
+
+fn step_quick(d: &mut [u32; 8], flags: Flags, size: Size, op: QuickOp, k: u8, t: D) -> Acted
+    ensures { λ r. ⌜ ((a : List ℕ) → leaving (now (d .exit)) a r ≡ performOf (held (now (d .entry)) a flags) (stepOf size (Form.Quick op k (Place.Data t)))) ⌝ }
+{
+    match refusal(t.0 < 8, true, within(1, 8, k)) {
+        Verdict::Faulty(fault) => refused(fault, flags),
+        Verdict::Sound => {
+            let dst = read(d, t.0);
+            let answer = quick(op, size, wide(k), dst, flags);
+            write(d, t.0, merged(size, dst, answer.result));
+            concluded(Outcome::Done, answer)
+        }
+    }
+}
+
+fn step_quick_address(a: &mut [u32; 8], flags: Flags, size: Size, op: QuickOp, k: u8, t: A) -> Acted
+    ensures { λ r. ⌜ ((d : List ℕ) → leaving d (now (a .exit)) r ≡ performOf (held d (now (a .entry)) flags) (stepOf size (Form.Quick op k (Place.Address t)))) ⌝ }
+{
+    match refusal(t.0 < 8, not_byte(size), within(1, 8, k)) {
+        Verdict::Faulty(fault) => refused(fault, flags),
+        Verdict::Sound => {
+            let dst = read(a, t.0);
+            let answer = quick_address(op, size, wide(k), dst, flags);
+            write(a, t.0, answer.result);
+            concluded(Outcome::Done, answer)
+        }
+    }
+}
+
+fn step_one(d: &mut [u32; 8], flags: Flags, size: Size, op: OneOp, t: D) -> Acted
+    ensures { λ r. ⌜ ((a : List ℕ) → leaving (now (d .exit)) a r ≡ performOf (held (now (d .entry)) a flags) (stepOf size (Form.One op t))) ⌝ }
+{
+    match refusal(t.0 < 8, one_size(op, size), true) {
+        Verdict::Faulty(fault) => refused(fault, flags),
+        Verdict::Sound => {
+            let dst = read(d, t.0);
+            let answer = one(op, size, dst, flags);
+            write(d, t.0, merged(size, dst, answer.result));
+            concluded(Outcome::Done, answer)
+        }
+    }
+}
+
+fn step_shift(d: &mut [u32; 8], flags: Flags, size: Size, op: ShiftOp, c: Count, t: D) -> Acted
+    ensures { λ r. ⌜ ((a : List ℕ) → leaving (now (d .exit)) a r ≡ performOf (held (now (d .entry)) a flags) (stepOf size (Form.Shift op c t))) ⌝ }
+{
+    match refusal(both(count_there(c), t.0 < 8), true, count_within(1, 8, c)) {
+        Verdict::Faulty(fault) => refused(fault, flags),
+        Verdict::Sound => {
+            let count = shift_count(d, c);
+            let dst = read(d, t.0);
+            let answer = shift(op, size, count, dst, flags);
+            write(d, t.0, merged(size, dst, answer.result));
+            concluded(Outcome::Done, answer)
+        }
+    }
+}
+
+fn step_bit(d: &mut [u32; 8], flags: Flags, size: Size, op: BitOp, c: Count, t: D) -> Acted
+    ensures { λ r. ⌜ ((a : List ℕ) → leaving (now (d .exit)) a r ≡ performOf (held (now (d .entry)) a flags) (stepOf size (Form.Bit op c t))) ⌝ }
+{
+    match refusal(both(count_there(c), t.0 < 8), is_long(size), count_within(0, 31, c)) {
+        Verdict::Faulty(fault) => refused(fault, flags),
+        Verdict::Sound => {
+            let number = bit_number(d, c);
+            let dst = read(d, t.0);
+            let answer = bit(op, size, number, dst, flags);
+            write(d, t.0, merged(size, dst, answer.result));
+            concluded(Outcome::Done, answer)
+        }
+    }
+}
+
+fn step_chk(d: &[u32; 8], flags: Flags, size: Size, s: D, t: D) -> Acted
+    ensures { λ r. ⌜ ((a : List ℕ) → leaving (now (d .entry)) a r ≡ performOf (held (now (d .entry)) a flags) (stepOf size (Form.Chk s t))) ⌝ }
+{
+    match refusal(both(s.0 < 8, t.0 < 8), is_word(size), true) {
+        Verdict::Faulty(fault) => refused(fault, flags),
+        Verdict::Sound => {
+            let bound = read(d, s.0);
+            let value = read(d, t.0);
+            let chk = exec_chk(size, bound, value, flags);
+            let check = chk.check;
+            let answer = chk.answer;
+            concluded(outcome_of(check), answer)
+        }
+    }
+}
+
+// One step on registers that are lent. A refused one changes nothing.
+pub(crate) fn perform_on(
+    d: &mut [u32; 8],
+    a: &mut [u32; 8],
+    flags: Flags,
+    size: Size,
+    form: Form,
+) -> Acted
+    ensures { λ r. ⌜ leaving (now (d .exit)) (now (a .exit)) r ≡ performOf (held (now (d .entry)) (now (a .entry)) flags) (stepOf size form) ⌝ }
+{
+    match form {
+        Form::Two(op, s, t) => step_two(d, flags, size, op, s, t),
+        Form::Address(op, p, t) => step_address(d, a, flags, size, op, p, t),
+        Form::Quick(op, k, p) => match p {
+            Place::Data(t) => step_quick(d, flags, size, op, k, t),
+            Place::Address(t) => step_quick_address(a, flags, size, op, k, t),
+        },
+        Form::One(op, t) => step_one(d, flags, size, op, t),
+        Form::Shift(op, c, t) => step_shift(d, flags, size, op, c, t),
+        Form::Bit(op, c, t) => step_bit(d, flags, size, op, c, t),
+        Form::Chk(s, t) => step_chk(d, flags, size, s, t),
+    }
+}
+
+// One step by value.
+pub fn perform(state: State, step: Step) -> Performed
+    ensures { λ r. ⌜ r ≡ performOf state step ⌝ }
+{
+    let mut d = state.d;
+    let mut a = state.a;
+    let before = state.flags;
+    let size = step.size;
+    let form = step.form;
+    let acted = perform_on(&mut d, &mut a, before, size, form);
+    let flags = acted.flags;
+    let outcome = acted.outcome;
+    Performed {
+        outcome,
+        state: State { d, a, flags },
+        clocks: acted.clocks,
+    }
+}
+
+fn wide(x: u8) -> u32
+    ensures { λ r. ⌜ r ≡ x ⌝ }
+{
+    x as u32
+}
