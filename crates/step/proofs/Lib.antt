@@ -1,3 +1,5 @@
 pub mod Laws
+pub mod Promises
 mod Running
 mod Stepping
+pub mod Determined
