@@ -55,17 +55,17 @@ fn write(file: &str, text: String) {
     }
 }
 
-/// RATTLE_LIB: the folder of the port's libcalls.a.
-fn link_port() {
+/// RATTLE_LIB: the folder of the port's libcalls.a, or liblaps.a.
+fn link_port(name: &str) {
     println!("cargo::rerun-if-env-changed=RATTLE_LIB");
     let folder = variable("RATTLE_LIB");
-    let library = Path::new(&folder).join("libcalls.a");
+    let library = Path::new(&folder).join(format!("lib{name}.a"));
     if !library.is_file() {
         stop(&[format!("the port's library is not there: {} (RATTLE_LIB)", library.display())]);
     }
     println!("cargo::rerun-if-changed={}", library.display());
     println!("cargo::rustc-link-search=native={folder}");
-    println!("cargo::rustc-link-lib=static=calls");
+    println!("cargo::rustc-link-lib=static={name}");
 }
 
 fn main() {
@@ -74,7 +74,9 @@ fn main() {
     let folder = source();
     write("core.rs", modules(&folder, &CORE));
     write("instructions.rs", modules(&folder.join("instructions"), &INSTRUCTIONS));
-    if env::var_os("CARGO_FEATURE_PORT").is_some() {
-        link_port();
+    for (feature, name) in [("CARGO_FEATURE_PORT", "calls"), ("CARGO_FEATURE_LAPS", "laps")] {
+        if env::var_os(feature).is_some() {
+            link_port(name);
+        }
     }
 }

@@ -16,9 +16,12 @@ pub use shim::{fpu, mmu};
 pub mod cases;
 pub mod check;
 pub mod document;
+pub mod machine;
 pub mod oracle;
 pub mod packed;
 #[cfg(feature = "port")]
 pub mod port;
 pub mod shim;
+pub mod steps;
+pub mod tuned;
 pub mod vectors;

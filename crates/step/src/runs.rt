@@ -102,7 +102,11 @@ fn most(len: usize, start: usize, budget: u32) -> u32
     ensures { λ r. ⌜ r ≡ mostOf len start budget ⌝ }
 {
     let rest = len - start;
-    if rest < budget as usize { rest as u32 } else { budget }
+    if rest < budget as usize {
+        rest as u32
+    } else {
+        budget
+    }
 }
 
 // Where a run starts.

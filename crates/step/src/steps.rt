@@ -441,7 +441,15 @@ fn step_two(d: &mut [u32; 8], flags: Flags, size: Size, op: TwoOp, s: D, t: D) -
     }
 }
 
-fn step_address(d: &[u32; 8], a: &mut [u32; 8], flags: Flags, size: Size, op: AddressOp, p: Place, t: A) -> Acted
+fn step_address(
+    d: &[u32; 8],
+    a: &mut [u32; 8],
+    flags: Flags,
+    size: Size,
+    op: AddressOp,
+    p: Place,
+    t: A,
+) -> Acted
     ensures { λ r. ⌜ leaving (now (d .entry)) (now (a .exit)) r ≡ performOf (held (now (d .entry)) (now (a .entry)) flags) (stepOf size (Form.Address op p t)) ⌝ }
 {
     match refusal(both(place_there(p), t.0 < 8), not_byte(size), true) {
@@ -516,7 +524,11 @@ fn step_shift(d: &mut [u32; 8], flags: Flags, size: Size, op: ShiftOp, c: Count,
 fn step_bit(d: &mut [u32; 8], flags: Flags, size: Size, op: BitOp, c: Count, t: D) -> Acted
     ensures { λ r. ⌜ ((a : List ℕ) → leaving (now (d .exit)) a r ≡ performOf (held (now (d .entry)) a flags) (stepOf size (Form.Bit op c t))) ⌝ }
 {
-    match refusal(both(count_there(c), t.0 < 8), is_long(size), count_within(0, 31, c)) {
+    match refusal(
+        both(count_there(c), t.0 < 8),
+        is_long(size),
+        count_within(0, 31, c),
+    ) {
         Verdict::Faulty(fault) => refused(fault, flags),
         Verdict::Sound => {
             let number = bit_number(d, c);

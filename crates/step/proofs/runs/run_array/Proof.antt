@@ -56,7 +56,7 @@ advance-requires : tie.Need-advance-requires Inv-loop μ-loop
 advance-requires c κs = ready (c .before .before .before)
 
 loop-less : tie.Need-loop-less Inv-loop μ-loop
-loop-less c = turn-less _ _ _ _ _ _ (goes (c .before .before .before .before )) (ready (c .before .before .before .before )) (c .advance .ensures .0)
+loop-less c = turn-less _ _ _ _ _ _ (goes (c .before .before .before .before)) (ready (c .before .before .before .before)) (c .advance .ensures .0)
 
 loop-again : tie.Need-loop-again Inv-loop μ-loop
 loop-again c =

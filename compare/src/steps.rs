@@ -1,0 +1,232 @@
+//! Step records, and the listings that `runs` runs: made of random numbers, the same as compare/laps/lib.rt makes in
+//! Rattle. A digest stands for all that the runs of a listing answer.
+
+#[derive(Clone, Copy, PartialEq)]
+pub enum Size {
+    Byte,
+    Word,
+    Long,
+}
+#[derive(Clone, Copy)]
+pub struct Flags {
+    pub x: bool,
+    pub n: bool,
+    pub z: bool,
+    pub v: bool,
+    pub c: bool,
+}
+#[derive(Clone, Copy)]
+pub enum Two {
+    Add,
+    Sub,
+    Cmp,
+    Addx,
+    Subx,
+}
+#[derive(Clone, Copy)]
+pub enum Adr {
+    Adda,
+    Suba,
+    Cmpa,
+}
+#[derive(Clone, Copy)]
+pub enum Quick {
+    Addq,
+    Subq,
+}
+#[derive(Clone, Copy)]
+pub enum One {
+    Clr,
+    Neg,
+    Negx,
+    Not,
+    Ext,
+}
+#[derive(Clone, Copy)]
+pub enum Shift {
+    Asl,
+    Asr,
+    Lsl,
+    Lsr,
+    Rol,
+    Ror,
+    Roxl,
+    Roxr,
+}
+#[derive(Clone, Copy)]
+pub enum Bit {
+    Btst,
+    Bset,
+    Bclr,
+    Bchg,
+}
+#[derive(Clone, Copy)]
+pub enum Place {
+    Data(u8),
+    Address(u8),
+}
+#[derive(Clone, Copy)]
+pub enum Count {
+    Small(u8),
+    Data(u8),
+}
+#[derive(Clone, Copy)]
+pub enum Form {
+    Two(Two, u8, u8),
+    Address(Adr, Place, u8),
+    Quick(Quick, u8, Place),
+    One(One, u8),
+    Shift(Shift, Count, u8),
+    Bit(Bit, Count, u8),
+    Chk(u8, u8),
+}
+#[derive(Clone, Copy)]
+pub struct Step {
+    pub size: Size,
+    pub form: Form,
+}
+#[derive(Clone, Copy)]
+pub struct State {
+    pub d: [u32; 8],
+    pub a: [u32; 8],
+    pub flags: Flags,
+}
+#[derive(Clone, Copy)]
+#[repr(u8)]
+pub enum Fault {
+    Small = 1,
+    NoSize = 2,
+    NoRegister = 3,
+    StartPastEnd = 10,
+}
+#[derive(Clone, Copy)]
+#[repr(u8)]
+pub enum Class {
+    Over = 1,
+    Short = 2,
+    Below = 3,
+}
+pub enum Stop {
+    Trapped(Class, u32),
+    Refused(Fault),
+}
+pub enum End {
+    Finished,
+    Budget,
+    Trapped(Class, usize),
+    Refused(Fault, usize),
+}
+pub struct Ran {
+    pub end: End,
+    pub next: usize,
+    pub steps: u32,
+    pub clocks: u64,
+}
+
+pub const FIRST: State = State {
+    d: [1, 2, 3, 4, 5, 6, 7, 8],
+    a: [9, 10, 11, 12, 13, 14, 15, 16],
+    flags: Flags { x: false, n: false, z: false, v: false, c: false },
+};
+
+fn next(x: u32) -> u32 {
+    x.wrapping_mul(1664525).wrapping_add(1013904223)
+}
+
+const SIZES: [Size; 3] = [Size::Byte, Size::Word, Size::Long];
+
+fn fitting_size(kind: u32, k: u32, z: u32) -> Size {
+    let wide = if z % 2 == 0 { Size::Word } else { Size::Long };
+    match kind {
+        5..9 => wide,
+        9..11 if k % 5 == 4 => wide,
+        14 => Size::Long,
+        15.. => Size::Word,
+        _ => SIZES[z as usize],
+    }
+}
+
+fn form_of(kind: u32, k: u32, small: u8, s: u8, r: u8) -> Form {
+    let place = |register| if k % 2 == 0 { Place::Data(register) } else { Place::Address(register) };
+    let count = if k % 2 == 0 { Count::Small(small) } else { Count::Data(s) };
+    match kind {
+        0..5 => Form::Two([Two::Add, Two::Sub, Two::Cmp, Two::Addx, Two::Subx][(k % 5) as usize], s, r),
+        5..7 => Form::Address([Adr::Adda, Adr::Suba, Adr::Cmpa][(k % 3) as usize], place(s), r),
+        7..9 => Form::Quick([Quick::Addq, Quick::Subq][(k / 2 % 2) as usize], small, place(r)),
+        9..11 => Form::One([One::Clr, One::Neg, One::Negx, One::Not, One::Ext][(k % 5) as usize], r),
+        11..14 => Form::Shift(
+            [
+                Shift::Asl,
+                Shift::Asr,
+                Shift::Lsl,
+                Shift::Lsr,
+                Shift::Rol,
+                Shift::Ror,
+                Shift::Roxl,
+                Shift::Roxr,
+            ][(k / 2 % 8) as usize],
+            count,
+            r,
+        ),
+        14 => Form::Bit([Bit::Btst, Bit::Bset, Bit::Bclr, Bit::Bchg][(k / 2 % 4) as usize], count, r),
+        15 => Form::Chk(7, 7),
+        _ => Form::Chk(s, r),
+    }
+}
+
+/// Kinds of steps in a listing: below 16 of that kind alone.
+pub const MIXED: u32 = 16;
+pub const WILD: u32 = 17;
+
+/// A step made of the random number x: of mixed kinds, all of them done (MIXED); or (WILD) one in sixteen made by y to
+/// be refused, or a CHK that may trap.
+fn step_of(kinds: u32, x: u32, y: u32) -> Step {
+    let wild = if kinds < WILD { 99 } else { y % 64 };
+    let kind = if wild == 4 {
+        16
+    } else if kinds < MIXED {
+        kinds
+    } else {
+        x % 16
+    };
+    let (r, s) = ((x / 16 % 7) as u8, (x / 128 % 8) as u8);
+    let (k, z) = (x / 1024 % 64, x / 65536 % 3);
+    let size = if wild == 2 { SIZES[(y / 64 % 3) as usize] } else { fitting_size(kind, k, z) };
+    let small = if wild == 3 { (y / 64 % 36) as u8 } else { s + 1 };
+    let source = if wild == 1 { s + 8 } else { s };
+    let target = if wild == 0 { r + 8 } else { r };
+    Step { size, form: form_of(kind, k, small, source, target) }
+}
+
+pub fn listing_of(kinds: u32, seed: u32) -> Vec<Step> {
+    let mut x = seed;
+    (0..256)
+        .map(|_| {
+            x = next(x);
+            step_of(kinds, x / 256, next(x) / 256)
+        })
+        .collect()
+}
+
+const PRIME: u64 = 1_000_000_007;
+
+fn mixed(sum: u64, value: u64) -> u64 {
+    (sum * 31 + value % PRIME) % PRIME
+}
+
+/// All that a run answers but the registers.
+pub fn answered(sum: u64, ran: &Ran) -> u64 {
+    let (end, place) = match ran.end {
+        End::Finished => (0, 0),
+        End::Budget => (1, 0),
+        End::Trapped(class, at) => (10 + class as u64, at),
+        End::Refused(fault, at) => (20 + fault as u64, at),
+    };
+    [end, place as u64, ran.next as u64, u64::from(ran.steps), ran.clocks].into_iter().fold(sum, mixed)
+}
+
+pub fn registers(sum: u64, state: &State) -> u64 {
+    let all = (0..8).fold(sum, |sum, i| mixed(mixed(sum, u64::from(state.d[i])), u64::from(state.a[i])));
+    let f = state.flags;
+    mixed(all, [f.x, f.n, f.z, f.v, f.c].into_iter().fold(0, |sum, flag| sum * 2 + u64::from(flag)))
+}
