@@ -21,7 +21,7 @@ use step::steps::Fault;
 use step::steps::Form;
 use step::steps::OneOp;
 use step::steps::Outcome;
-use step::steps::Place;
+use step::steps::Register;
 use step::steps::QuickOp;
 use step::steps::Step;
 use step::steps::TwoOp;
@@ -100,10 +100,10 @@ fn wide_of(k: u32) -> Size {
     }
 }
 
-fn place_of(k: u32, r: u8) -> Place {
+fn register_of(k: u32, r: u8) -> Register {
     match k % 2 {
-        0 => Place::Data(D(r)),
-        _ => Place::Address(A(r)),
+        0 => Register::Data(D(r)),
+        _ => Register::Address(A(r)),
     }
 }
 
@@ -119,10 +119,10 @@ fn form_of(kind: u32, k: u32, small: u8, s: u8, r: u8) -> Form {
         return Form::Two(two_of(k), D(s), D(r));
     }
     if kind < 7 {
-        return Form::Address(address_of(k), place_of(k, s), A(r));
+        return Form::Address(address_of(k), register_of(k, s), A(r));
     }
     if kind < 9 {
-        return Form::Quick(quick_of(k / 2), small, place_of(k, r));
+        return Form::Quick(quick_of(k / 2), small, register_of(k, r));
     }
     if kind < 11 {
         return Form::One(one_of(k), D(r));

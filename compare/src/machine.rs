@@ -107,8 +107,8 @@ impl Machine {
             Form::Shift(op, count, t) => self.shift(op, step.size, count, usize::from(t)),
             Form::Address(op, place, t) => {
                 let src = match place {
-                    Place::Data(r) => self.cpu.dar[usize::from(r)],
-                    Place::Address(r) => self.cpu.dar[8 + usize::from(r)],
+                    Register::Data(r) => self.cpu.dar[usize::from(r)],
+                    Register::Address(r) => self.cpu.dar[8 + usize::from(r)],
                 };
                 match op {
                     Adr::Adda => self.cpu.exec_adda(&mut self.bus, size, src, usize::from(t)),
@@ -118,8 +118,8 @@ impl Machine {
             }
             Form::Quick(op, k, place) => {
                 let target = match place {
-                    Place::Data(r) => DataDirect(r),
-                    Place::Address(r) => AddressDirect(r),
+                    Register::Data(r) => DataDirect(r),
+                    Register::Address(r) => AddressDirect(r),
                 };
                 match op {
                     Quick::Addq => self.cpu.exec_addq(&mut self.bus, size, u32::from(k), target),

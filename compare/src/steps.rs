@@ -61,7 +61,7 @@ pub enum Bit {
     Bchg,
 }
 #[derive(Clone, Copy)]
-pub enum Place {
+pub enum Register {
     Data(u8),
     Address(u8),
 }
@@ -73,8 +73,8 @@ pub enum Count {
 #[derive(Clone, Copy)]
 pub enum Form {
     Two(Two, u8, u8),
-    Address(Adr, Place, u8),
-    Quick(Quick, u8, Place),
+    Address(Adr, Register, u8),
+    Quick(Quick, u8, Register),
     One(One, u8),
     Shift(Shift, Count, u8),
     Bit(Bit, Count, u8),
@@ -147,7 +147,7 @@ fn fitting_size(kind: u32, k: u32, z: u32) -> Size {
 }
 
 fn form_of(kind: u32, k: u32, small: u8, s: u8, r: u8) -> Form {
-    let place = |register| if k % 2 == 0 { Place::Data(register) } else { Place::Address(register) };
+    let place = |register| if k % 2 == 0 { Register::Data(register) } else { Register::Address(register) };
     let count = if k % 2 == 0 { Count::Small(small) } else { Count::Data(s) };
     match kind {
         0..5 => Form::Two([Two::Add, Two::Sub, Two::Cmp, Two::Addx, Two::Subx][(k % 5) as usize], s, r),

@@ -103,8 +103,8 @@ impl State {
             Form::Address(op, p, t) => {
                 let t = t as usize;
                 let src = match p {
-                    Place::Data(r) if r < 8 => self.d[r as usize],
-                    Place::Address(r) if r < 8 => self.a[r as usize],
+                    Register::Data(r) if r < 8 => self.d[r as usize],
+                    Register::Address(r) if r < 8 => self.a[r as usize],
                     _ => return Err(Stop::Refused(Fault::NoRegister)),
                 };
                 if t >= 8 {
@@ -134,7 +134,7 @@ impl State {
                 }
             }
             Form::Quick(op, k, p) => match p {
-                Place::Data(t) => {
+                Register::Data(t) => {
                     let t = t as usize;
                     if t >= 8 {
                         return Err(Stop::Refused(Fault::NoRegister));
@@ -151,7 +151,7 @@ impl State {
                     self.put(size, t, r);
                     Ok(long(4, 8))
                 }
-                Place::Address(t) => {
+                Register::Address(t) => {
                     let t = t as usize;
                     if t >= 8 {
                         return Err(Stop::Refused(Fault::NoRegister));

@@ -16,8 +16,8 @@ use step::steps::Form;
 use step::steps::OneOp;
 use step::steps::Outcome;
 use step::steps::Performed;
-use step::steps::Place;
 use step::steps::QuickOp;
+use step::steps::Register;
 use step::steps::Step;
 use step::steps::Trap;
 use step::steps::TwoOp;
@@ -201,7 +201,7 @@ fn address_cases(t: Tally) -> Tally {
         t,
         b"ADDA.W extends its source and touches no flag",
         Size::Word,
-        Form::Address(AddressOp::Adda, Place::Data(D(0)), A(1)),
+        Form::Address(AddressOp::Adda, Register::Data(D(0)), A(1)),
         with_a1(0x1_ffff, 0, 0x9000, 31),
         with_a1(0x1_ffff, 0, 0x8fff, 31),
         8,
@@ -210,7 +210,7 @@ fn address_cases(t: Tally) -> Tally {
         t,
         b"SUBA.L from an address register",
         Size::Long,
-        Form::Address(AddressOp::Suba, Place::Address(A(0)), A(1)),
+        Form::Address(AddressOp::Suba, Register::Address(A(0)), A(1)),
         with_a1(0, 0, 0x9000, 5),
         with_a1(0, 0, 0x1000, 5),
         8,
@@ -219,7 +219,7 @@ fn address_cases(t: Tally) -> Tally {
         t,
         b"CMPA.W compares 32 bits",
         Size::Word,
-        Form::Address(AddressOp::Cmpa, Place::Data(D(0)), A(1)),
+        Form::Address(AddressOp::Cmpa, Register::Data(D(0)), A(1)),
         with_a1(0x9000, 0, 0xffff_9000, 0),
         with_a1(0x9000, 0, 0xffff_9000, 4),
         6,
@@ -228,7 +228,7 @@ fn address_cases(t: Tally) -> Tally {
         t,
         b"ADDQ.B #8 to a data register",
         Size::Byte,
-        Form::Quick(QuickOp::Addq, 8, Place::Data(D(1))),
+        Form::Quick(QuickOp::Addq, 8, Register::Data(D(1))),
         state(0, 0x12f8, 0),
         state(0, 0x1200, 21),
         4,
@@ -237,7 +237,7 @@ fn address_cases(t: Tally) -> Tally {
         t,
         b"ADDQ.L has figure 8",
         Size::Long,
-        Form::Quick(QuickOp::Addq, 1, Place::Data(D(1))),
+        Form::Quick(QuickOp::Addq, 1, Register::Data(D(1))),
         state(0, 0x12ff, 0),
         state(0, 0x1300, 0),
         8,
@@ -246,7 +246,7 @@ fn address_cases(t: Tally) -> Tally {
         t,
         b"SUBQ.W on an address register takes 32 bits and no flag",
         Size::Word,
-        Form::Quick(QuickOp::Subq, 1, Place::Address(A(1))),
+        Form::Quick(QuickOp::Subq, 1, Register::Address(A(1))),
         with_a1(0, 0, 0x1_0000, 31),
         with_a1(0, 0, 0xffff, 31),
         8,
@@ -434,35 +434,35 @@ fn register_cases(t: Tally) -> Tally {
         t,
         b"3: A8 as source",
         Size::Long,
-        Form::Address(AddressOp::Adda, Place::Address(A(8)), A(1)),
+        Form::Address(AddressOp::Adda, Register::Address(A(8)), A(1)),
         Fault::NoSuchRegister,
     );
     let t = refused(
         t,
         b"3: D8 as source of CMPA",
         Size::Word,
-        Form::Address(AddressOp::Cmpa, Place::Data(D(8)), A(1)),
+        Form::Address(AddressOp::Cmpa, Register::Data(D(8)), A(1)),
         Fault::NoSuchRegister,
     );
     let t = refused(
         t,
         b"3: A8 as destination",
         Size::Long,
-        Form::Address(AddressOp::Suba, Place::Data(D(0)), A(8)),
+        Form::Address(AddressOp::Suba, Register::Data(D(0)), A(8)),
         Fault::NoSuchRegister,
     );
     let t = refused(
         t,
         b"3: ADDQ to D8",
         Size::Long,
-        Form::Quick(QuickOp::Addq, 1, Place::Data(D(8))),
+        Form::Quick(QuickOp::Addq, 1, Register::Data(D(8))),
         Fault::NoSuchRegister,
     );
     let t = refused(
         t,
         b"3: SUBQ to A8",
         Size::Long,
-        Form::Quick(QuickOp::Subq, 1, Place::Address(A(8))),
+        Form::Quick(QuickOp::Subq, 1, Register::Address(A(8))),
         Fault::NoSuchRegister,
     );
     let t = refused(
@@ -521,21 +521,21 @@ fn size_cases(t: Tally) -> Tally {
         t,
         b"2: ADDA.B",
         Size::Byte,
-        Form::Address(AddressOp::Adda, Place::Data(D(0)), A(1)),
+        Form::Address(AddressOp::Adda, Register::Data(D(0)), A(1)),
         Fault::NoSuchSize,
     );
     let t = refused(
         t,
         b"2: CMPA.B",
         Size::Byte,
-        Form::Address(AddressOp::Cmpa, Place::Address(A(0)), A(1)),
+        Form::Address(AddressOp::Cmpa, Register::Address(A(0)), A(1)),
         Fault::NoSuchSize,
     );
     let t = refused(
         t,
         b"2: ADDQ.B to an address register",
         Size::Byte,
-        Form::Quick(QuickOp::Addq, 1, Place::Address(A(1))),
+        Form::Quick(QuickOp::Addq, 1, Register::Address(A(1))),
         Fault::NoSuchSize,
     );
     let t = refused(
@@ -580,14 +580,14 @@ fn small_cases(t: Tally) -> Tally {
         t,
         b"1: ADDQ #0",
         Size::Long,
-        Form::Quick(QuickOp::Addq, 0, Place::Data(D(1))),
+        Form::Quick(QuickOp::Addq, 0, Register::Data(D(1))),
         Fault::BadSmall,
     );
     let t = refused(
         t,
         b"1: SUBQ #9",
         Size::Long,
-        Form::Quick(QuickOp::Subq, 9, Place::Address(A(1))),
+        Form::Quick(QuickOp::Subq, 9, Register::Address(A(1))),
         Fault::BadSmall,
     );
     let t = refused(
@@ -629,14 +629,14 @@ fn small_cases(t: Tally) -> Tally {
         t,
         b"3 before 1: ADDQ #9 to D8",
         Size::Long,
-        Form::Quick(QuickOp::Addq, 9, Place::Data(D(8))),
+        Form::Quick(QuickOp::Addq, 9, Register::Data(D(8))),
         Fault::NoSuchRegister,
     );
     refused(
         t,
         b"3 before 2 before 1: SUBQ.B #0 to A8",
         Size::Byte,
-        Form::Quick(QuickOp::Subq, 0, Place::Address(A(8))),
+        Form::Quick(QuickOp::Subq, 0, Register::Address(A(8))),
         Fault::NoSuchRegister,
     )
 }

@@ -1,8 +1,8 @@
 -- Laws of a run, over any step function f and any listing l. What a run makes of each place: `run-past`, `run-end`, `run-none`, `run-step`. The
--- steps done are the next place less the start place: `run-next`. A run of j and then of k steps is one of j + k: `run-split`. Halted after any
--- step it has that step's state, so no run does its work in the first step and idles: `run-halted`. A budget of the steps that stand there is
--- enough: `run-enough`. Assumes nothing.
-use mathlib.Core.Path.{_≡_, refl, sym, _∙_, ap}
+-- steps done are the next place less the start place: `run-next`; no more than the budget: `run-few`. A run of j and then of k steps is one of
+-- j + k: `run-split`; halted however often: `run-in-parts`. Halted after any step it has that step's state, so no run does its work in the first step
+-- and idles: `run-halted`. A budget of the steps that stand there is enough: `run-enough`. Assumes nothing.
+use mathlib.Core.Path.{_≡_, refl, sym, _∙_, ap, subst}
 use mathlib.Core.Bool.{Bool, true, false}
 use mathlib.Core.List.{List, [], _∷_}
 use Prim.Native.Nat.{ℕ, zero, suc, _+_, _≤_, _<_}
@@ -19,7 +19,8 @@ use Rattle.step.specs.declared.steps.Performed.{Performed}
 use Rattle.step.specs.declared.runs.End.{End}
 use Rattle.step.specs.declared.runs.End.the-variants as End
 use Rattle.step.specs.declared.runs.Ran.{Ran}
-use Rattle.step.specs.Run.{Spot, here, atEnd, pastEnd, spotOf, ends, counted, followed, met, runOf, after, goesOn, runInParts, total}
+use Rattle.step.specs.Run.{Spot, here, atEnd, pastEnd, spotOf, ends, counted, followed, met, runOf}
+use Rattle.step.specs.Parts.{after, goesOn, runInParts, total}
 
 pub no : {A : Type 0} → false ≡ true → A
 no e = let z : _≡_ {A = ℕ} 0 1 = cc in absurd (omega arith)
@@ -154,6 +155,50 @@ module _ (f : State → Step → Performed) (l : List Step) where
   run-split s p (suc j) k g =
       ap (runOf f l s p) (suc-add j k)
       ∙ split-met (spotOf l p) s p k _ _ (run-end s p k) (λ t. split-followed (f s t .outcome) (f s t) p k (λ u q. runOf f l u q j) (λ u q. runOf f l u q (j + k)) (λ u q. run-split u q j k)) g
+
+  -- what goes on after j + k steps went on after j
+  going-followed : (o : Outcome) (w : Performed) (p : ℕ) (on on′ : State → ℕ → Ran) → ((t : State) (q : ℕ) → goesOn (on t q .end) ≡ true → goesOn (on′ t q .end) ≡ true)
+      → goesOn (followed o w p on .end) ≡ true → goesOn (followed o w p on′ .end) ≡ true
+  going-followed Done w p on on′ h g = h (w .state) (suc p) g
+  going-followed (Trapped x) w p on on′ h g = g
+  going-followed (Refused x) w p on on′ h g = g
+
+  going-met : (o : Spot) (s : State) (p : ℕ) (on on′ : Step → Ran) → ((k : Step) → goesOn (on k .end) ≡ true → goesOn (on′ k .end) ≡ true)
+      → goesOn (met o s p on .end) ≡ true → goesOn (met o s p on′ .end) ≡ true
+  going-met pastEnd s p on on′ h g = g
+  going-met atEnd s p on on′ h g = g
+  going-met (here k) s p on on′ h g = h k g
+
+  going-none : (s : State) (p b : ℕ) → goesOn (runOf f l s p b .end) ≡ true → goesOn (runOf f l s p 0 .end) ≡ true
+  unfolding runOf
+  going-none s p zero g = g
+  going-none s p (suc b) g = going-met (spotOf l p) s p _ _ (λ k g. refl) g
+
+  pub run-going : (s : State) (p j k : ℕ) → goesOn (runOf f l s p (j + k) .end) ≡ true → goesOn (runOf f l s p j .end) ≡ true
+  unfolding runOf
+  run-going s p zero k g = going-none s p (0 + k) g
+  run-going s p (suc j) k g =
+      going-met (spotOf l p) s p _ _ (λ t. going-followed (f s t .outcome) (f s t) p (λ u q. runOf f l u q (j + k)) (λ u q. runOf f l u q j) (λ u q. run-going u q j k))
+      (subst (λ (b : ℕ). goesOn (runOf f l s p b .end) ≡ true) (suc-add j k) g)
+
+  -- every part but the last goes on
+  abbrev pub PartsGo : State → (p b : ℕ) → (bs : List ℕ) → Type 0
+  PartsGo s p b [] = Unit {0}
+  PartsGo s p b (c ∷ bs) = let r = runOf f l s p b in (goesOn (r .end) ≡ true) × PartsGo (r .state) (r .next) c bs
+
+  -- however often a run is halted, it comes to what it would have come to
+  pub run-in-parts : (bs : List ℕ) (s : State) (p b : ℕ) → PartsGo s p b bs → runInParts f l s p b bs ≡ runOf f l s p (total b bs)
+  run-in-parts [] s p b g = refl
+  run-in-parts (c ∷ bs) s p b g =
+      let r = runOf f l s p b in ap (after (r .steps) (r .clocks)) (run-in-parts bs (r .state) (r .next) c (g .1)) ∙ sym (run-split s p b (total c bs) (g .0))
+
+  -- where the whole run goes on, so does every part
+  pub parts-go : (bs : List ℕ) (s : State) (p b : ℕ) → goesOn (runOf f l s p (total b bs) .end) ≡ true → PartsGo s p b bs
+  parts-go [] s p b g = tt
+  parts-go (c ∷ bs) s p b g =
+      let r = runOf f l s p b in
+      let first = run-going s p b (total c bs) g in
+      (first, parts-go bs (r .state) (r .next) c (subst (λ (q : Ran). goesOn (q .end) ≡ true) (run-split s p b (total c bs) first) g))
 
   -- ---- halted after any step
 

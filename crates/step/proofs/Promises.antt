@@ -38,7 +38,7 @@ use Rattle.step.specs.declared.steps.Step.{Step}
 use Rattle.step.specs.declared.steps.Outcome.{Outcome}
 use Rattle.step.specs.declared.steps.Outcome.the-variants.{Done}
 use Rattle.step.specs.declared.steps.Performed.{Performed}
-use Rattle.step.specs.Perform.{twoOf, oneOf, oneSize, verdictOf, actOf, judged, performOf}
+use Rattle.step.specs.Perform.{twoOf, oneOf, oneSize, rulingOf, actOf, judged, performOf}
 
 abbrev pub word : ℕ
 word = 2 ^ 32
@@ -340,7 +340,7 @@ one-size Negx u = refl
 one-size Not u = refl
 one-size Ext u = absurd u
 
-done : (form : Form) (s : State) → LegalForm form → Gives (judged (verdictOf Long form) s (actOf s Long form)) Done (appliedForm long form s) (figureOf form)
+done : (form : Form) (s : State) → LegalForm form → Gives (judged (rulingOf Long form) s (actOf s Long form)) Done (appliedForm long form s) (figureOf form)
 done (Two op p q) s h =
     rw (lt-ltb (p .0) 8 (h .1), lt-ltb (q .0) 8 (h .2)) (record { outcome = refl; state = refl; clocks = two-figure op (h .0) (register s (p .0)) (register s (q .0)) (s .flags) })
 done (Address op p q) s h = absurd h
@@ -358,6 +358,6 @@ pub performs : Steps performOf
 performs = record {
   alu = long;
   figure = λ k. figureOf (k .form);
-  does = λ k s h. subst⁻¹ (λ (size : Size). Gives (judged (verdictOf size (k .form)) s (actOf s size (k .form))) Done (applied long k s) (figureOf (k .form))) (h .0) (done (k .form) s (h .1));
+  does = λ k s h. subst⁻¹ (λ (size : Size). Gives (judged (rulingOf size (k .form)) s (actOf s size (k .form))) Done (applied long k s) (figureOf (k .form))) (h .0) (done (k .form) s (h .1));
   promises = kept;
 }

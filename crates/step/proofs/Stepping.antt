@@ -11,8 +11,8 @@ use Rattle.step.specs.declared.registers.State.{State}
 use Rattle.step.specs.declared.registers.D.{D}
 use Rattle.step.specs.declared.registers.A.{A}
 use Rattle.step.specs.declared.steps.Fault.{Fault}
-use Rattle.step.specs.declared.steps.Verdict.{Verdict}
-use Rattle.step.specs.declared.steps.Verdict.the-variants.{Sound, Faulty}
+use Rattle.step.specs.declared.steps.Ruling.{Ruling}
+use Rattle.step.specs.declared.steps.Ruling.the-variants.{Sound, Faulty}
 use Rattle.step.specs.declared.steps.Outcome.{Outcome}
 use Rattle.step.specs.declared.steps.Outcome.the-variants.{Done}
 use Rattle.step.specs.declared.steps.Performed.{Performed}
@@ -21,12 +21,12 @@ use Rattle.step.specs.Registers.{dataOf, mergedOf}
 use Rattle.step.specs.Perform.{toData, toAddress, outcomeOf, checkedOf, judged}
 use Rattle.step.specs.Course.{leaving, saidOf, refusedOf}
 
-module _ (s : State) {v w : Verdict} where
+module _ (s : State) {v w : Ruling} where
   pub faulty-step : (p : Performed) {x : Fault} {r : Acted} → v ≡ w → v ≡ Faulty x → r ≡ refusedOf x (s .flags) → leaving (s .d) (s .a) r ≡ judged w s p
-  faulty-step p e g h = ap (leaving (s .d) (s .a)) h ∙ ap (λ (u : Verdict). judged u s p) (sym g ∙ e)
+  faulty-step p e g h = ap (leaving (s .d) (s .a)) h ∙ ap (λ (u : Ruling). judged u s p) (sym g ∙ e)
 
   sound-step : (p : Performed) → v ≡ w → v ≡ Sound → p ≡ judged w s p
-  sound-step p e g = ap (λ (u : Verdict). judged u s p) (sym g ∙ e)
+  sound-step p e g = ap (λ (u : Ruling). judged u s p) (sym g ∙ e)
 
   pub data-step : (size : Size) (t : D) {answer known : Answer} {r : Acted} {d : List ℕ} {m : ℕ} → v ≡ w → v ≡ Sound → r ≡ saidOf Done answer → d ≡ set (s .d) (t .0) m
       → m ≡ mergedOf size (dataOf s t) (answer .result) → answer ≡ known → leaving d (s .a) r ≡ judged w s (toData s size t known)

@@ -1,17 +1,14 @@
 -- Terms of private functions' contracts: a step on registers that are lent, and the loop of a run. No promise of a public function names anything of
 -- this page, and a reader of the promises can leave it out. Assumes nothing.
 use mathlib.Core.Path.{_≡_}
-use mathlib.Core.Bool.{Bool, true, false, cond}
+use mathlib.Core.Bool.{false, cond}
 use mathlib.Core.List.{List}
-use Prim.Native.Nat.{ℕ, zero, suc, _+_, _-_, _*_, _<_, _≤_, _^_}
+use Prim.Native.Nat.{ℕ, _+_, _-_, _*_, _<_, _≤_, _^_}
 use lib.Dec.{ltb, leb}
 use Rattle.alu.specs.declared.types.Flags.{Flags}
 use Rattle.alu.specs.declared.types.Answer.{Answer}
-use Rattle.alu.specs.declared.types.Size.{Size}
 use Rattle.step.specs.declared.registers.State.{State}
 use Rattle.step.specs.declared.steps.Acted.{Acted}
-use Rattle.step.specs.declared.steps.Form.{Form}
-use Rattle.step.specs.declared.steps.Step.{Step}
 use Rattle.step.specs.declared.steps.Fault.{Fault}
 use Rattle.step.specs.declared.steps.Fault.the-variants.{StartPastEnd}
 use Rattle.step.specs.declared.steps.Outcome.{Outcome}
@@ -38,14 +35,11 @@ saidOf outcome answer = record { outcome = outcome; flags = answer .flags; clock
 abbrev pub refusedOf : Fault → Flags → Acted
 refusedOf fault f = record { outcome = Refused fault; flags = f; clocks = 0 }
 
-abbrev pub stepOf : Size → Form → Step
-stepOf size form = record { size = size; form = form }
-
 -- ---- the loop of a run
 
 -- a run that has ended
-abbrev pub stopped : End → (left next clocks : ℕ) → Flags → Course
-stopped e left next clocks f = record { going = false; end = e; left = left; next = next; clocks = clocks; flags = f }
+abbrev pub halted : End → (left next clocks : ℕ) → Flags → Course
+halted e left next clocks f = record { going = false; end = e; left = left; next = next; clocks = clocks; flags = f }
 
 -- how a run ends that takes no step more at a place of a listing of `len` steps, or at its end
 abbrev pub endAt : (len next : ℕ) → End
@@ -67,13 +61,13 @@ abbrev pub mostOf : (len start budget : ℕ) → ℕ
 mostOf len start budget = cond (ltb (len - start) budget) (len - start) budget
 
 abbrev pub beginOf : (len start budget : ℕ) → Flags → Course
-beginOf len start budget f = cond (leb start len) (arriveOf len (mostOf len start budget) start 0 f) (stopped (End.Refused StartPastEnd start) 0 start 0 f)
+beginOf len start budget f = cond (leb start len) (arriveOf len (mostOf len start budget) start 0 f) (halted (End.Refused StartPastEnd start) 0 start 0 f)
 
 -- the step at the next place was performed as p
 abbrev pub turned : (len : ℕ) → Course → Outcome → Performed → Course
 turned len on Done p = arriveOf len (on .left - 1) (on .next + 1) (on .clocks + p .clocks) (p .state .flags)
-turned len on (Trapped trap) p = stopped (End.Trapped trap (on .next)) (on .left - 1) (on .next + 1) (on .clocks + p .clocks) (p .state .flags)
-turned len on (Refused fault) p = stopped (End.Refused fault (on .next)) (on .left) (on .next) (on .clocks) (p .state .flags)
+turned len on (Trapped trap) p = halted (End.Trapped trap (on .next)) (on .left - 1) (on .next + 1) (on .clocks + p .clocks) (p .state .flags)
+turned len on (Refused fault) p = halted (End.Refused fault (on .next)) (on .left) (on .next) (on .clocks) (p .state .flags)
 
 -- the step was performed as p: the registers d and a, and where the run stands then
 pub record Advanced (len : ℕ) (on : Course) (p : Performed) (d a : List ℕ) (r : Course) : Type 0 where

@@ -2,4 +2,5 @@ pub mod Registers
 pub mod Perform
 pub mod Run
 pub mod Lent
+pub mod Parts
 pub mod Course

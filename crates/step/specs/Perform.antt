@@ -1,5 +1,6 @@
--- One step: it is refused, or it reads its operands, and writes a register and the flags. Document 01, "Steps and runs", its forms table and its
--- refusal numbers. The operations' answers are those of the crate alu. Assumes nothing.
+-- One step: it is refused, or it reads its operands, and writes a register and the flags (CHK: the flags alone). Document 01, "Steps and runs", its
+-- forms table and its refusal numbers. The operations' answers are those of the crate alu. s is the state before; of a form, r is the source register
+-- and t the destination. Assumes nothing.
 use Prim.Native.Nat.{ℕ, _%_}
 use mathlib.Core.Bool.{Bool, true, false, _&&_}
 use lib.Dec.{ltb, leb}
@@ -24,8 +25,8 @@ use Rattle.step.specs.declared.steps.QuickOp.{QuickOp}
 use Rattle.step.specs.declared.steps.QuickOp.the-variants.{Addq, Subq}
 use Rattle.step.specs.declared.steps.OneOp.{OneOp}
 use Rattle.step.specs.declared.steps.OneOp.the-variants.{Clr, Neg, Negx, Not, Ext}
-use Rattle.step.specs.declared.steps.Place.{Place}
-use Rattle.step.specs.declared.steps.Place.the-variants as Place
+use Rattle.step.specs.declared.steps.Register.{Register}
+use Rattle.step.specs.declared.steps.Register.the-variants as Register
 use Rattle.step.specs.declared.steps.Count.{Count}
 use Rattle.step.specs.declared.steps.Count.the-variants as Count
 use Rattle.step.specs.declared.steps.Form.{Form}
@@ -33,8 +34,8 @@ use Rattle.step.specs.declared.steps.Form.the-variants.{Two, Address, Qu
 use Rattle.step.specs.declared.steps.Step.{Step}
 use Rattle.step.specs.declared.steps.Fault.{Fault}
 use Rattle.step.specs.declared.steps.Fault.the-variants.{BadSmall, NoSuchSize, NoSuchRegister, StartPastEnd}
-use Rattle.step.specs.declared.steps.Verdict.{Verdict}
-use Rattle.step.specs.declared.steps.Verdict.the-variants.{Sound, Faulty}
+use Rattle.step.specs.declared.steps.Ruling.{Ruling}
+use Rattle.step.specs.declared.steps.Ruling.the-variants.{Sound, Faulty}
 use Rattle.step.specs.declared.steps.Trap.{Trap}
 use Rattle.step.specs.declared.steps.Trap.the-variants.{Over as TrapOver, Short as TrapShort, Below as TrapBelow}
 use Rattle.step.specs.declared.steps.Outcome.{Outcome}
@@ -57,20 +58,20 @@ classOf TrapBelow = 3
 
 -- ---- may the step be done?
 
--- the order of the tests: 3, 2, 1
-abbrev pub refusalOf : (registers size small : Bool) → Verdict
+-- the order of the tests: 3, 2, 1. `true` says that a test is passed
+abbrev pub refusalOf : (registers size small : Bool) → Ruling
 refusalOf false size small = Faulty NoSuchRegister
 refusalOf true false small = Faulty NoSuchSize
 refusalOf true true false = Faulty BadSmall
 refusalOf true true true = Sound
 
--- a register number, of either kind
+-- a number that names a register, 0 to 7
 abbrev pub there : ℕ → Bool
 there r = ltb r 8
 
-abbrev pub placeThere : Place → Bool
-placeThere (Place.Data r) = there (r .0)
-placeThere (Place.Address r) = there (r .0)
+abbrev pub registerThere : Register → Bool
+registerThere (Register.Data r) = there (r .0)
+registerThere (Register.Address r) = there (r .0)
 
 abbrev pub countThere : Count → Bool
 countThere (Count.Small k) = true
@@ -100,9 +101,9 @@ isLong Byte = false
 isLong Word = false
 isLong Long = true
 
-abbrev pub quickSize : Place → Size → Bool
-quickSize (Place.Data r) size = true
-quickSize (Place.Address r) size = notByte size
+abbrev pub quickSize : Register → Size → Bool
+quickSize (Register.Data r) size = true
+quickSize (Register.Address r) size = notByte size
 
 abbrev pub oneSize : OneOp → Size → Bool
 oneSize Clr size = true
@@ -111,62 +112,64 @@ oneSize Negx size = true
 oneSize Not size = true
 oneSize Ext size = notByte size
 
--- each form's registers, sizes and small numbers; s is the source, t the destination
-abbrev pub verdictOf : Size → Form → Verdict
-verdictOf size (Two op s t) = refusalOf (there (s .0) && there (t .0)) true true
-verdictOf size (Address op p t) = refusalOf (placeThere p && there (t .0)) (notByte size) true
-verdictOf size (Quick op k p) = refusalOf (placeThere p) (quickSize p size) (within 1 8 k)
-verdictOf size (One op t) = refusalOf (there (t .0)) (oneSize op size) true
-verdictOf size (Shift op c t) = refusalOf (countThere c && there (t .0)) true (countWithin 1 8 c)
-verdictOf size (Bit op c t) = refusalOf (countThere c && there (t .0)) (isLong size) (countWithin 0 31 c)
-verdictOf size (Chk s t) = refusalOf (there (s .0) && there (t .0)) (isWord size) true
+-- each form's registers, sizes and small numbers
+abbrev pub rulingOf : Size → Form → Ruling
+rulingOf size (Two op r t) = refusalOf (there (r .0) && there (t .0)) true true
+rulingOf size (Address op r t) = refusalOf (registerThere r && there (t .0)) (notByte size) true
+rulingOf size (Quick op k t) = refusalOf (registerThere t) (quickSize t size) (within 1 8 k)
+rulingOf size (One op t) = refusalOf (there (t .0)) (oneSize op size) true
+rulingOf size (Shift op c t) = refusalOf (countThere c && there (t .0)) true (countWithin 1 8 c)
+rulingOf size (Bit op c t) = refusalOf (countThere c && there (t .0)) (isLong size) (countWithin 0 31 c)
+rulingOf size (Chk r t) = refusalOf (there (r .0) && there (t .0)) (isWord size) true
 
--- ---- the operations' answers, of source, destination and flags
+-- ---- the operations' answers, of the values of source and destination and of the flags
 
-abbrev pub twoOf : TwoOp → Size → (s d : ℕ) → Flags → Answer
+abbrev pub twoOf : TwoOp → Size → (src dst : ℕ) → Flags → Answer
 twoOf Add = addOf
 twoOf Sub = subOf
 twoOf Cmp = cmpOf
 twoOf Addx = addxOf
 twoOf Subx = subxOf
 
-abbrev pub onAddressOf : AddressOp → Size → (s d : ℕ) → Flags → Answer
+abbrev pub onAddressOf : AddressOp → Size → (src dst : ℕ) → Flags → Answer
 onAddressOf Adda = addaOf
 onAddressOf Suba = subaOf
 onAddressOf Cmpa = cmpaOf
 
-abbrev pub quickOf : QuickOp → Size → (s d : ℕ) → Flags → Answer
+abbrev pub quickOf : QuickOp → Size → (src dst : ℕ) → Flags → Answer
 quickOf Addq = addqOf
 quickOf Subq = subqOf
 
-abbrev pub quickAddressOf : QuickOp → Size → (s d : ℕ) → Flags → Answer
+abbrev pub quickAddressOf : QuickOp → Size → (src dst : ℕ) → Flags → Answer
 quickAddressOf Addq = addqAddressOf
 quickAddressOf Subq = subqAddressOf
 
-abbrev pub oneOf : OneOp → Size → (d : ℕ) → Flags → Answer
-oneOf Clr size d f = clrOf size f
-oneOf Neg size d f = negOf size d f
-oneOf Negx size d f = negxOf size d f
-oneOf Not size d f = notOf size d f
-oneOf Ext size d f = extOf size d f
+abbrev pub oneOf : OneOp → Size → (dst : ℕ) → Flags → Answer
+oneOf Clr size dst f = clrOf size f
+oneOf Neg size dst f = negOf size dst f
+oneOf Negx size dst f = negxOf size dst f
+oneOf Not size dst f = notOf size dst f
+oneOf Ext size dst f = extOf size dst f
 
 -- ---- a step that is done
 
 -- what a source holds
-abbrev pub placeValue : State → Place → ℕ
-placeValue s (Place.Data r) = dataOf s r
-placeValue s (Place.Address r) = addressOf s r
+abbrev pub registerValue : State → Register → ℕ
+registerValue s (Register.Data r) = dataOf s r
+registerValue s (Register.Address r) = addressOf s r
 
 -- a shift's count or a bit's number: a register's value is taken mod 64 or mod 32
 abbrev pub countValue : State → (modulus : ℕ) → Count → ℕ
 countValue s modulus (Count.Small k) = k
 countValue s modulus (Count.Data r) = dataOf s r % modulus
 
--- an answer's flags go to the state s; its figure is the step's
+-- An answer's flags go to the state s, and its figure is the step's. (A step that is sound is never refused by its operation: `never-refused` of
+-- proofs/Sound)
 abbrev pub concluded : Outcome → State → Answer → Performed
 concluded outcome s answer = record { outcome = outcome; state = putFlags s (answer .flags); clocks = answer .clocks }
 
--- its result goes to a data register, at the step's size, or whole to an address register
+-- Its result goes to a data register, at the step's size, or whole to an address register. CMP, CMPA and BTST answer the destination as it was handed
+-- in, so that nothing changes there; ADDA, SUBA and ADDQ and SUBQ on an address register answer the flags as they came
 abbrev pub toData : State → Size → D → Answer → Performed
 toData s size t answer = concluded Done (putData s size t (answer .result)) answer
 
@@ -186,9 +189,9 @@ checkedOf s c = concluded (outcomeOf (c .check)) s (c .answer)
 -- all operands are read in the state s, before anything is written
 abbrev pub actOf : State → Size → Form → Performed
 actOf s size (Two op r t) = toData s size t (twoOf op size (dataOf s r) (dataOf s t) (s .flags))
-actOf s size (Address op p t) = toAddress s t (onAddressOf op size (placeValue s p) (addressOf s t) (s .flags))
-actOf s size (Quick op k (Place.Data t)) = toData s size t (quickOf op size k (dataOf s t) (s .flags))
-actOf s size (Quick op k (Place.Address t)) = toAddress s t (quickAddressOf op size k (addressOf s t) (s .flags))
+actOf s size (Address op r t) = toAddress s t (onAddressOf op size (registerValue s r) (addressOf s t) (s .flags))
+actOf s size (Quick op k (Register.Data t)) = toData s size t (quickOf op size k (dataOf s t) (s .flags))
+actOf s size (Quick op k (Register.Address t)) = toAddress s t (quickAddressOf op size k (addressOf s t) (s .flags))
 actOf s size (One op t) = toData s size t (oneOf op size (dataOf s t) (s .flags))
 actOf s size (Shift op c t) = toData s size t (shiftOf op size (countValue s 64 c) (dataOf s t) (s .flags))
 actOf s size (Bit op c t) = toData s size t (bitopOf op size (countValue s 32 c) (dataOf s t) (s .flags))
@@ -196,10 +199,24 @@ actOf s size (Chk r t) = checkedOf s (chkOf size (dataOf s r) (dataOf s t) (s .f
 
 -- ---- the step
 
--- a refused step changes nothing and counts no clocks
-abbrev pub judged : Verdict → State → Performed → Performed
-judged Sound s p = p
-judged (Faulty fault) s p = record { outcome = Refused fault; state = s; clocks = 0 }
+-- a refused step changes nothing and counts no clocks; `done` is what it would have made
+abbrev pub judged : Ruling → State → (done : Performed) → Performed
+judged Sound s done = done
+judged (Faulty fault) s done = record { outcome = Refused fault; state = s; clocks = 0 }
+
+abbrev pub performForm : State → Size → Form → Performed
+performForm s size form = judged (rulingOf size form) s (actOf s size form)
 
 abbrev pub performOf : State → Step → Performed
-performOf s t = judged (verdictOf (t .size) (t .form)) s (actOf s (t .size) (t .form))
+performOf s k = performForm s (k .size) (k .form)
+
+-- document 01's refusal number of a step's outcome, and the class of a trap; 0 where there is none
+abbrev pub refusedWith : Outcome → ℕ
+refusedWith Done = 0
+refusedWith (Trapped trap) = 0
+refusedWith (Refused fault) = numberOf fault
+
+abbrev pub trappedWith : Outcome → ℕ
+trappedWith Done = 0
+trappedWith (Trapped trap) = classOf trap
+trappedWith (Refused fault) = 0

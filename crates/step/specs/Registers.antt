@@ -1,7 +1,7 @@
--- The register set: a register's value, and a write to it. Past the end of a list `getD` is 0 and `set` changes nothing: a step that names such a
--- register is refused before it reads one (Perform). Assumes nothing.
+-- The register set: eight data registers and eight address registers of 32 bits, which a state holds as lists of numbers, and the flags. What a
+-- register holds, and a write to it. Past the end of a list `getD` is 0 and `set` changes nothing: a step that names such a register is refused
+-- before it reads one (Perform). Assumes nothing.
 use Prim.Native.Nat.{ℕ, _/_, _^_}
-use mathlib.Core.List.{List}
 use lib.ListN.{getD, set}
 use Rattle.alu.specs.declared.types.Size.{Size}
 use Rattle.alu.specs.declared.types.Size.the-variants.{Byte, Word, Long}

@@ -1,7 +1,6 @@
 -- A run of a listing: document 01, "Steps and runs". It is defined by recursion on the budget, from a place, over any step function f. The tests
 -- stand in document 01's order: past the end; at the end; the budget spent; then the step. Assumes nothing.
 use Prim.Native.Nat.{ℕ, zero, suc, _+_}
-use mathlib.Core.Bool.{Bool, true, false}
 use mathlib.Core.List.{List, [], _∷_}
 use Rattle.step.specs.declared.registers.State.{State}
 use Rattle.step.specs.declared.steps.Step.{Step}
@@ -12,6 +11,7 @@ use Rattle.step.specs.declared.steps.Performed.{Performed}
 use Rattle.step.specs.declared.runs.End.{End}
 use Rattle.step.specs.declared.runs.End.the-variants as End
 use Rattle.step.specs.declared.runs.Ran.{Ran}
+use Rattle.step.specs.Perform.{numberOf, classOf}
 
 -- what stands at a place of a listing: a step, its end, or nothing
 pub data Spot : Type 0 where
@@ -33,8 +33,8 @@ ends e s p = record { end = e; state = s; next = p; steps = 0; clocks = 0 }
 abbrev pub counted : (c : ℕ) → Ran → Ran
 counted c r = record { end = r .end; state = r .state; next = r .next; steps = suc (r .steps); clocks = c + r .clocks }
 
--- The step at place p was performed as o. Done: it is counted, and the run goes on, from o's state and the place after p. A trap is counted and
--- ends the run; the next place is after it. A refused step is not counted and is the next place.
+-- The step at place p was performed as o; its outcome stands first, to go by its cases. Done: it is counted, and the run goes on, from o's state and
+-- the place after p. A trap is counted and ends the run; the next place is after it. A refused step is not counted and is the next place.
 abbrev pub followed : Outcome → Performed → (p : ℕ) → (on : State → ℕ → Ran) → Ran
 followed Done o p on = counted (o .clocks) (on (o .state) (suc p))
 followed (Trapped trap) o p on = counted (o .clocks) (ends (End.Trapped trap p) (o .state) (suc p))
@@ -52,25 +52,21 @@ module _ (f : State → Step → Performed) (l : List Step) where
   runOf s p zero = met (spotOf l p) s p (λ k. ends End.Budget s p)
   runOf s p (suc b) = met (spotOf l p) s p (λ k. followed (f s k .outcome) (f s k) p (λ t q. runOf t q b))
 
--- ---- what the laws of a run speak of (proofs/Laws)
+-- document 01's refusal number of a run, the class of its trap, and the place of either; 0 where there is none
+abbrev pub endRefusedWith : End → ℕ
+endRefusedWith End.Finished = 0
+endRefusedWith End.Budget = 0
+endRefusedWith (End.Trapped trap p) = 0
+endRefusedWith (End.Refused fault p) = numberOf fault
 
--- n steps and c clocks, and then a run
-abbrev pub after : (n c : ℕ) → Ran → Ran
-after n c r = record { end = r .end; state = r .state; next = r .next; steps = n + r .steps; clocks = c + r .clocks }
+abbrev pub endTrappedWith : End → ℕ
+endTrappedWith End.Finished = 0
+endTrappedWith End.Budget = 0
+endTrappedWith (End.Trapped trap p) = classOf trap
+endTrappedWith (End.Refused fault p) = 0
 
--- neither trapped nor refused
-abbrev pub goesOn : End → Bool
-goesOn End.Finished = true
-goesOn End.Budget = true
-goesOn (End.Trapped trap p) = false
-goesOn (End.Refused fault p) = false
-
--- a run that is halted after the budget b and after each of bs but the last, and continued: state and place are kept, steps and figures add
-module _ (f : State → Step → Performed) (l : List Step) where
-  abbrev pub runInParts : State → (p b : ℕ) → (bs : List ℕ) → Ran
-  runInParts s p b [] = runOf f l s p b
-  runInParts s p b (c ∷ bs) = let r = runOf f l s p b in after (r .steps) (r .clocks) (runInParts (r .state) (r .next) c bs)
-
-abbrev pub total : (b : ℕ) → (bs : List ℕ) → ℕ
-total b [] = b
-total b (c ∷ bs) = b + total c bs
+abbrev pub endPlace : End → ℕ
+endPlace End.Finished = 0
+endPlace End.Budget = 0
+endPlace (End.Trapped trap p) = p
+endPlace (End.Refused fault p) = p

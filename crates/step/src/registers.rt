@@ -1,4 +1,4 @@
-// The register set. Its arrays are lent to what works on them, so that no step copies them.
+// The register set. Its arrays are lent to what works on them, so that no step of a run copies them.
 ghost use mathlib.Core.Path.{_≡_};
 ghost use lib.ListN.{getD, set};
 ghost use Rattle.step.specs.Registers.{mergedOf};

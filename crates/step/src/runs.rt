@@ -1,12 +1,12 @@
 // A run of a listing of steps with a budget.
 ghost use mathlib.Core.Path.{_≡_};
 ghost use mathlib.Core.Bool.{true, cond};
-ghost use Prim.Native.Nat.{_<_, _≤_, _*_, _^_};
+ghost use Prim.Native.Nat.{_<_, _≤_, _^_};
 ghost use lib.Dec.{ltb};
 ghost use lib.ListN.{take};
 ghost use Rattle.step.specs.Perform.{performOf};
 ghost use Rattle.step.specs.Run.{runOf};
-ghost use Rattle.step.specs.Course.{held, stopped, endAt, arriveOf, mostOf, beginOf, Advanced, ranOf, Ready};
+ghost use Rattle.step.specs.Course.{held, halted, endAt, arriveOf, mostOf, beginOf, Advanced, ranOf, Ready};
 use super::registers::State;
 use super::steps::Fault;
 use super::steps::Outcome;
@@ -77,8 +77,8 @@ fn arrive(len: usize, left: u32, next: usize, clocks: u64, flags: Flags) -> Cour
 }
 
 // A run that has ended.
-fn stop(end: End, left: u32, next: usize, clocks: u64, flags: Flags) -> Course
-    ensures { λ r. ⌜ r ≡ stopped end left next clocks flags ⌝ }
+fn halt(end: End, left: u32, next: usize, clocks: u64, flags: Flags) -> Course
+    ensures { λ r. ⌜ r ≡ halted end left next clocks flags ⌝ }
 {
     Course {
         going: false,
@@ -117,7 +117,7 @@ pub(crate) fn begin(len: usize, start: usize, budget: u32, flags: Flags) -> Cour
         let left = most(len, start, budget);
         arrive(len, left, start, 0, flags)
     } else {
-        stop(End::Refused(Fault::StartPastEnd, start), 0, start, 0, flags)
+        halt(End::Refused(Fault::StartPastEnd, start), 0, start, 0, flags)
     }
 }
 
@@ -145,8 +145,8 @@ pub(crate) fn advance(
     let clocks = on.clocks + figure;
     match outcome {
         Outcome::Done => arrive(len, left, next, clocks, flags),
-        Outcome::Trapped(trap) => stop(End::Trapped(trap, at), left, next, clocks, flags),
-        Outcome::Refused(fault) => stop(End::Refused(fault, at), on.left, at, on.clocks, flags),
+        Outcome::Trapped(trap) => halt(End::Trapped(trap, at), left, next, clocks, flags),
+        Outcome::Refused(fault) => halt(End::Refused(fault, at), on.left, at, on.clocks, flags),
     }
 }
 
@@ -167,7 +167,7 @@ pub(crate) fn ended(d: [u32; 8], a: [u32; 8], first: u32, on: Course) -> Ran
     }
 }
 
-// A run of a listing that stands in an array, in its first `count` steps.
+// A run of a listing that stands in an array, in its first `count` steps; a count above 256 means all 256.
 pub fn run_array(listing: [Step; 256], count: usize, state: State, start: usize, budget: u32) -> Ran
     ensures { λ r. ⌜ r ≡ runOf performOf (take count listing) state start budget ⌝ }
 {

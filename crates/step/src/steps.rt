@@ -1,16 +1,17 @@
-// One step: on registers that are lent, and by value.
+// One step: on registers that are lent, and by value. In a contract `within` is the definition of specs/, not the
+// function here.
 ghost use mathlib.Core.Path.{_≡_};
 ghost use mathlib.Core.Bool.{_&&_};
 ghost use mathlib.Core.List.{List};
-ghost use Prim.Native.Nat.{ℕ, _<_};
+ghost use Prim.Native.Nat.{ℕ};
 ghost use Rattle.alu.specs.Shifts.{shiftOf};
 ghost use Rattle.alu.specs.Bitops.{bitopOf};
 ghost use Rattle.step.specs.declared.steps.Form.the-variants as Form;
-ghost use Rattle.step.specs.declared.steps.Place.the-variants as Place;
-ghost use Rattle.step.specs.Perform.{numberOf, classOf, refusalOf, placeThere, countThere, within, countWithin};
-ghost use Rattle.step.specs.Perform.{notByte, isWord, isLong, quickSize, oneSize, twoOf, onAddressOf, quickOf, quickAddressOf, oneOf};
-ghost use Rattle.step.specs.Perform.{placeValue, countValue, outcomeOf, performOf};
-ghost use Rattle.step.specs.Course.{held, leaving, saidOf, refusedOf, stepOf};
+ghost use Rattle.step.specs.declared.steps.Register.the-variants as Register;
+ghost use Rattle.step.specs.Perform.{numberOf, classOf, refusalOf, registerThere, countThere, within, countWithin};
+ghost use Rattle.step.specs.Perform.{notByte, isWord, isLong, oneSize, twoOf, onAddressOf, quickOf, quickAddressOf, oneOf};
+ghost use Rattle.step.specs.Perform.{registerValue, countValue, outcomeOf, performForm, performOf};
+ghost use Rattle.step.specs.Course.{held, leaving, saidOf, refusedOf};
 use super::registers::A;
 use super::registers::D;
 use super::registers::State;
@@ -82,7 +83,7 @@ pub enum OneOp {
 }
 
 // A register of either kind.
-pub enum Place {
+pub enum Register {
     Data(D),
     Address(A),
 }
@@ -96,8 +97,8 @@ pub enum Count {
 // The forms of document 01, source before destination. No other operand kind can be written.
 pub enum Form {
     Two(TwoOp, D, D),
-    Address(AddressOp, Place, A),
-    Quick(QuickOp, u8, Place),
+    Address(AddressOp, Register, A),
+    Quick(QuickOp, u8, Register),
     One(OneOp, D),
     Shift(ShiftOp, Count, D),
     Bit(BitOp, Count, D),
@@ -138,7 +139,7 @@ pub struct Performed {
 }
 
 // Whether a step may be done.
-enum Verdict {
+enum Ruling {
     Sound,
     Faulty(Fault),
 }
@@ -174,21 +175,21 @@ pub fn class(trap: Trap) -> u32
 }
 
 // The order of the tests: 3, 2, 1.
-fn refusal(registers: bool, size: bool, small: bool) -> Verdict
+fn refusal(registers: bool, size: bool, small: bool) -> Ruling
     ensures { λ r. ⌜ r ≡ refusalOf registers size small ⌝ }
 {
     if registers {
         if size {
             if small {
-                Verdict::Sound
+                Ruling::Sound
             } else {
-                Verdict::Faulty(Fault::BadSmall)
+                Ruling::Faulty(Fault::BadSmall)
             }
         } else {
-            Verdict::Faulty(Fault::NoSuchSize)
+            Ruling::Faulty(Fault::NoSuchSize)
         }
     } else {
-        Verdict::Faulty(Fault::NoSuchRegister)
+        Ruling::Faulty(Fault::NoSuchRegister)
     }
 }
 
@@ -241,12 +242,12 @@ fn one_size(op: OneOp, size: Size) -> bool
     }
 }
 
-fn place_there(p: Place) -> bool
-    ensures { λ r. ⌜ r ≡ placeThere p ⌝ }
+fn register_there(p: Register) -> bool
+    ensures { λ r. ⌜ r ≡ registerThere p ⌝ }
 {
     match p {
-        Place::Data(r) => r.0 < 8,
-        Place::Address(r) => r.0 < 8,
+        Register::Data(r) => r.0 < 8,
+        Register::Address(r) => r.0 < 8,
     }
 }
 
@@ -352,12 +353,12 @@ fn bit(op: BitOp, size: Size, number: u32, dst: u32, flags: Flags) -> Answer
     }
 }
 
-fn place_value(d: &[u32; 8], a: &[u32; 8], p: Place) -> u32
-    ensures { λ r. ⌜ ((f : Flags) → r ≡ placeValue (held (now (d .entry)) (now (a .entry)) f) p) ⌝ }
+fn register_value(d: &[u32; 8], a: &[u32; 8], p: Register) -> u32
+    ensures { λ r. ⌜ ((f : Flags) → r ≡ registerValue (held (now (d .entry)) (now (a .entry)) f) p) ⌝ }
 {
     match p {
-        Place::Data(r) => read(d, r.0),
-        Place::Address(r) => read(a, r.0),
+        Register::Data(r) => read(d, r.0),
+        Register::Address(r) => read(a, r.0),
     }
 }
 
@@ -391,9 +392,9 @@ fn outcome_of(check: Check) -> Outcome
     }
 }
 
-// What a step says once the operation has answered: the one place that asks for its clock figure. The
-// flags go over one by one, as in alu::types::accepted.
-fn concluded(outcome: Outcome, answer: Answer) -> Acted
+// What a step says once the operation has answered. Here alone the operation's figure becomes the step's. The flags go
+// over one by one, as in alu::types::accepted.
+fn said(outcome: Outcome, answer: Answer) -> Acted
     ensures { λ r. ⌜ r ≡ saidOf outcome answer ⌝ }
 {
     Acted {
@@ -427,16 +428,16 @@ fn refused(fault: Fault, flags: Flags) -> Acted
 }
 
 fn step_two(d: &mut [u32; 8], flags: Flags, size: Size, op: TwoOp, s: D, t: D) -> Acted
-    ensures { λ r. ⌜ ((a : List ℕ) → leaving (now (d .exit)) a r ≡ performOf (held (now (d .entry)) a flags) (stepOf size (Form.Two op s t))) ⌝ }
+    ensures { λ r. ⌜ ((a : List ℕ) → leaving (now (d .exit)) a r ≡ performForm (held (now (d .entry)) a flags) size (Form.Two op s t)) ⌝ }
 {
     match refusal(both(s.0 < 8, t.0 < 8), true, true) {
-        Verdict::Faulty(fault) => refused(fault, flags),
-        Verdict::Sound => {
+        Ruling::Faulty(fault) => refused(fault, flags),
+        Ruling::Sound => {
             let src = read(d, s.0);
             let dst = read(d, t.0);
             let answer = two(op, size, src, dst, flags);
             write(d, t.0, merged(size, dst, answer.result));
-            concluded(Outcome::Done, answer)
+            said(Outcome::Done, answer)
         }
     }
 }
@@ -447,111 +448,111 @@ fn step_address(
     flags: Flags,
     size: Size,
     op: AddressOp,
-    p: Place,
+    p: Register,
     t: A,
 ) -> Acted
-    ensures { λ r. ⌜ leaving (now (d .entry)) (now (a .exit)) r ≡ performOf (held (now (d .entry)) (now (a .entry)) flags) (stepOf size (Form.Address op p t)) ⌝ }
+    ensures { λ r. ⌜ leaving (now (d .entry)) (now (a .exit)) r ≡ performForm (held (now (d .entry)) (now (a .entry)) flags) size (Form.Address op p t) ⌝ }
 {
-    match refusal(both(place_there(p), t.0 < 8), not_byte(size), true) {
-        Verdict::Faulty(fault) => refused(fault, flags),
-        Verdict::Sound => {
-            let src = place_value(d, a, p);
+    match refusal(both(register_there(p), t.0 < 8), not_byte(size), true) {
+        Ruling::Faulty(fault) => refused(fault, flags),
+        Ruling::Sound => {
+            let src = register_value(d, a, p);
             let dst = read(a, t.0);
             let answer = on_address(op, size, src, dst, flags);
             write(a, t.0, answer.result);
-            concluded(Outcome::Done, answer)
+            said(Outcome::Done, answer)
         }
     }
 }
 
 fn step_quick(d: &mut [u32; 8], flags: Flags, size: Size, op: QuickOp, k: u8, t: D) -> Acted
-    ensures { λ r. ⌜ ((a : List ℕ) → leaving (now (d .exit)) a r ≡ performOf (held (now (d .entry)) a flags) (stepOf size (Form.Quick op k (Place.Data t)))) ⌝ }
+    ensures { λ r. ⌜ ((a : List ℕ) → leaving (now (d .exit)) a r ≡ performForm (held (now (d .entry)) a flags) size (Form.Quick op k (Register.Data t))) ⌝ }
 {
     match refusal(t.0 < 8, true, within(1, 8, k)) {
-        Verdict::Faulty(fault) => refused(fault, flags),
-        Verdict::Sound => {
+        Ruling::Faulty(fault) => refused(fault, flags),
+        Ruling::Sound => {
             let dst = read(d, t.0);
             let answer = quick(op, size, wide(k), dst, flags);
             write(d, t.0, merged(size, dst, answer.result));
-            concluded(Outcome::Done, answer)
+            said(Outcome::Done, answer)
         }
     }
 }
 
 fn step_quick_address(a: &mut [u32; 8], flags: Flags, size: Size, op: QuickOp, k: u8, t: A) -> Acted
-    ensures { λ r. ⌜ ((d : List ℕ) → leaving d (now (a .exit)) r ≡ performOf (held d (now (a .entry)) flags) (stepOf size (Form.Quick op k (Place.Address t)))) ⌝ }
+    ensures { λ r. ⌜ ((d : List ℕ) → leaving d (now (a .exit)) r ≡ performForm (held d (now (a .entry)) flags) size (Form.Quick op k (Register.Address t))) ⌝ }
 {
     match refusal(t.0 < 8, not_byte(size), within(1, 8, k)) {
-        Verdict::Faulty(fault) => refused(fault, flags),
-        Verdict::Sound => {
+        Ruling::Faulty(fault) => refused(fault, flags),
+        Ruling::Sound => {
             let dst = read(a, t.0);
             let answer = quick_address(op, size, wide(k), dst, flags);
             write(a, t.0, answer.result);
-            concluded(Outcome::Done, answer)
+            said(Outcome::Done, answer)
         }
     }
 }
 
 fn step_one(d: &mut [u32; 8], flags: Flags, size: Size, op: OneOp, t: D) -> Acted
-    ensures { λ r. ⌜ ((a : List ℕ) → leaving (now (d .exit)) a r ≡ performOf (held (now (d .entry)) a flags) (stepOf size (Form.One op t))) ⌝ }
+    ensures { λ r. ⌜ ((a : List ℕ) → leaving (now (d .exit)) a r ≡ performForm (held (now (d .entry)) a flags) size (Form.One op t)) ⌝ }
 {
     match refusal(t.0 < 8, one_size(op, size), true) {
-        Verdict::Faulty(fault) => refused(fault, flags),
-        Verdict::Sound => {
+        Ruling::Faulty(fault) => refused(fault, flags),
+        Ruling::Sound => {
             let dst = read(d, t.0);
             let answer = one(op, size, dst, flags);
             write(d, t.0, merged(size, dst, answer.result));
-            concluded(Outcome::Done, answer)
+            said(Outcome::Done, answer)
         }
     }
 }
 
 fn step_shift(d: &mut [u32; 8], flags: Flags, size: Size, op: ShiftOp, c: Count, t: D) -> Acted
-    ensures { λ r. ⌜ ((a : List ℕ) → leaving (now (d .exit)) a r ≡ performOf (held (now (d .entry)) a flags) (stepOf size (Form.Shift op c t))) ⌝ }
+    ensures { λ r. ⌜ ((a : List ℕ) → leaving (now (d .exit)) a r ≡ performForm (held (now (d .entry)) a flags) size (Form.Shift op c t)) ⌝ }
 {
     match refusal(both(count_there(c), t.0 < 8), true, count_within(1, 8, c)) {
-        Verdict::Faulty(fault) => refused(fault, flags),
-        Verdict::Sound => {
+        Ruling::Faulty(fault) => refused(fault, flags),
+        Ruling::Sound => {
             let count = shift_count(d, c);
             let dst = read(d, t.0);
             let answer = shift(op, size, count, dst, flags);
             write(d, t.0, merged(size, dst, answer.result));
-            concluded(Outcome::Done, answer)
+            said(Outcome::Done, answer)
         }
     }
 }
 
 fn step_bit(d: &mut [u32; 8], flags: Flags, size: Size, op: BitOp, c: Count, t: D) -> Acted
-    ensures { λ r. ⌜ ((a : List ℕ) → leaving (now (d .exit)) a r ≡ performOf (held (now (d .entry)) a flags) (stepOf size (Form.Bit op c t))) ⌝ }
+    ensures { λ r. ⌜ ((a : List ℕ) → leaving (now (d .exit)) a r ≡ performForm (held (now (d .entry)) a flags) size (Form.Bit op c t)) ⌝ }
 {
     match refusal(
         both(count_there(c), t.0 < 8),
         is_long(size),
         count_within(0, 31, c),
     ) {
-        Verdict::Faulty(fault) => refused(fault, flags),
-        Verdict::Sound => {
+        Ruling::Faulty(fault) => refused(fault, flags),
+        Ruling::Sound => {
             let number = bit_number(d, c);
             let dst = read(d, t.0);
             let answer = bit(op, size, number, dst, flags);
             write(d, t.0, merged(size, dst, answer.result));
-            concluded(Outcome::Done, answer)
+            said(Outcome::Done, answer)
         }
     }
 }
 
 fn step_chk(d: &[u32; 8], flags: Flags, size: Size, s: D, t: D) -> Acted
-    ensures { λ r. ⌜ ((a : List ℕ) → leaving (now (d .entry)) a r ≡ performOf (held (now (d .entry)) a flags) (stepOf size (Form.Chk s t))) ⌝ }
+    ensures { λ r. ⌜ ((a : List ℕ) → leaving (now (d .entry)) a r ≡ performForm (held (now (d .entry)) a flags) size (Form.Chk s t)) ⌝ }
 {
     match refusal(both(s.0 < 8, t.0 < 8), is_word(size), true) {
-        Verdict::Faulty(fault) => refused(fault, flags),
-        Verdict::Sound => {
+        Ruling::Faulty(fault) => refused(fault, flags),
+        Ruling::Sound => {
             let bound = read(d, s.0);
             let value = read(d, t.0);
             let chk = exec_chk(size, bound, value, flags);
             let check = chk.check;
             let answer = chk.answer;
-            concluded(outcome_of(check), answer)
+            said(outcome_of(check), answer)
         }
     }
 }
@@ -564,14 +565,14 @@ pub(crate) fn perform_on(
     size: Size,
     form: Form,
 ) -> Acted
-    ensures { λ r. ⌜ leaving (now (d .exit)) (now (a .exit)) r ≡ performOf (held (now (d .entry)) (now (a .entry)) flags) (stepOf size form) ⌝ }
+    ensures { λ r. ⌜ leaving (now (d .exit)) (now (a .exit)) r ≡ performForm (held (now (d .entry)) (now (a .entry)) flags) size form ⌝ }
 {
     match form {
         Form::Two(op, s, t) => step_two(d, flags, size, op, s, t),
         Form::Address(op, p, t) => step_address(d, a, flags, size, op, p, t),
         Form::Quick(op, k, p) => match p {
-            Place::Data(t) => step_quick(d, flags, size, op, k, t),
-            Place::Address(t) => step_quick_address(a, flags, size, op, k, t),
+            Register::Data(t) => step_quick(d, flags, size, op, k, t),
+            Register::Address(t) => step_quick_address(a, flags, size, op, k, t),
         },
         Form::One(op, t) => step_one(d, flags, size, op, t),
         Form::Shift(op, c, t) => step_shift(d, flags, size, op, c, t),

@@ -420,14 +420,23 @@ module _ {M : Type 1} (𝓤 : URA M) (H : Heap 𝓤) (A : Atoms 𝓤) (W : Given
         Went r d′ a′ = Advanced (length ys) on (performOf (held d a (on .flags)) t) d′ a′ r × ((r .left ≤ on .left) × (r .going ≡ true → Ready (length ys) r))
 
         next : (d′ a′ : List ℕ) (r : Course) → Is Regs d′ (d-val d′ ∷ []) → Is Regs a′ (d-val a′ ∷ []) → Is O.the-row r (o-val r ∷ []) → Went r d′ a′ → Upto first
-        next d′ a′ r pd pa pr e = (d′, (a′, (r, record {
-          is-d = pd;
-          is-a = pa;
-          is-on = pr;
-          comes = turn-answer performOf ys nop first d a d′ a′ on r g (st .few) w (e .0) ∙ st .comes;
-          few = omega (arith, e .1 .0, st .few);
-          ready = e .1 .1;
-        })))
+        next d′ a′ r pd pa pr e = (
+          d′,
+          (
+            a′,
+            (
+              r,
+              record {
+                is-d = pd;
+                is-a = pa;
+                is-on = pr;
+                comes = turn-answer performOf ys nop first d a d′ a′ on r g (st .few) w (e .0) ∙ st .comes;
+                few = omega (arith, e .1 .0, st .few);
+                ready = e .1 .1;
+              },
+            ),
+          ),
+        )
 
         nearer : (d′ a′ : List ℕ) (r : Course) → Went r d′ a′ → leftOf r < leftOf on
         nearer d′ a′ r e = turn-less (length ys) on (performOf (held d a (on .flags)) t) d′ a′ r g w (e .0)
@@ -502,14 +511,23 @@ module _ {M : Type 1} (𝓤 : URA M) (H : Heap 𝓤) (A : Atoms 𝓤) (W : Given
         → Sq W (Before (empty (tyInt w32) l₉) (holds O′.mir l₈ (o-val on)) (Rows (s .d) (s .a))) (runs C Λ En mir.t-5 (atRet En Post))
     begun on e po =
         assigns ! (of-opd ! (load ! (from ! (fld ! refl (stop !))) (look-in ! 20 (sub ! 2 refl (whole !))))) (from ! (stop !)) (init ! 18 refl (tt, record { fits = left-fits })) $
-        loops-on (on .left) left-fits (s .d, (s .a, (on, record {
-          is-d = field-is (s .d) (LL.owed S.the-type S′.the-laws s _ ps .0);
-          is-a = field-is (s .a) (LL.owed S.the-type S′.the-laws s _ ps .1 .0);
-          is-on = po;
-          comes = ap (λ (c : Course). answerOf performOf ys (c .left) (s .d) (s .a) c) (e .0) ∙ begin-answer performOf ys nop s start budget;
-          few = omega arith;
-          ready = e .1;
-        })))
+        loops-on (on .left) left-fits (
+          s .d,
+          (
+            s .a,
+            (
+              on,
+              record {
+                is-d = field-is (s .d) (LL.owed S.the-type S′.the-laws s _ ps .0);
+                is-a = field-is (s .a) (LL.owed S.the-type S′.the-laws s _ ps .1 .0);
+                is-on = po;
+                comes = ap (λ (c : Course). answerOf performOf ys (c .left) (s .d) (s .a) c) (e .0) ∙ begin-answer performOf ys nop s start budget;
+                few = omega arith;
+                ready = e .1;
+              },
+            ),
+          ),
+        )
       where
         left-fits : on .left < 2 ^ 32
         left-fits = LL.owed O.the-type O′.the-laws on _ po .1 .1 .0 .1

@@ -5,7 +5,7 @@ use Rattle.step.proofs.runs.advance.Tie as tie
 use Rattle.step.proofs.runs.advance.Reads as reads
 use Rattle.step.proofs.runs.advance.Lts as lts
 use Rattle.step.proofs.runs.arrive.Reads as arrive-reads
-use Rattle.step.proofs.runs.stop.Reads as stop-reads
+use Rattle.step.proofs.runs.halt.Reads as halt-reads
 use Rattle.step.proofs.runs.wide.Reads as wide-reads
 use Rattle.step.proofs.steps.perform_on.Reads as perform-on-reads
 
@@ -33,14 +33,14 @@ arrive-requires c κs = search needs
 enum-known-outcome : tie.Need-enum-known-outcome
 enum-known-outcome c = search needs
 
-stop-requires : tie.Need-stop-requires
-stop-requires c κs = search needs
+halt-requires : tie.Need-halt-requires
+halt-requires c κs = search needs
 
 enum-known-outcome-2 : tie.Need-enum-known-outcome-2
 enum-known-outcome-2 c = search needs
 
-stop-requires-2 : tie.Need-stop-requires-2
-stop-requires-2 c κs = search needs
+halt-requires-2 : tie.Need-halt-requires-2
+halt-requires-2 c κs = search needs
 
 returns : tie.Need-returns
 returns c =
@@ -52,13 +52,13 @@ returns-2 : tie.Need-returns-2
 returns-2 c =
     let start = c .before .before .before .before .before .before .before .before .before .before .before .before in
     let wide = c .before .before .before .before .before .wide .ensures in
-    advanced (start .args .len) (start .args .on) _ _ (c .before .before .before .before .before .before .before .before .perform-on .ensures) (rw (c .before .before .outcome .given .1) (rw (wide .0) at (c .stop .ensures))) (start .pre) (rw (wide .0) at (wide .1))
+    advanced (start .args .len) (start .args .on) _ _ (c .before .before .before .before .before .before .before .before .perform-on .ensures) (rw (c .before .before .outcome .given .1) (rw (wide .0) at (c .halt .ensures))) (start .pre) (rw (wide .0) at (wide .1))
 
 returns-3 : tie.Need-returns-3
 returns-3 c =
     let start = c .before .before .before .before .before .before .before .before .before .before .before .before in
     let wide = c .before .before .before .before .before .wide .ensures in
-    advanced (start .args .len) (start .args .on) _ _ (c .before .before .before .before .before .before .before .before .perform-on .ensures) (rw (c .before .before .outcome2 .given .1) (c .stop2 .ensures)) (start .pre) (rw (wide .0) at (wide .1))
+    advanced (start .args .len) (start .args .on) _ _ (c .before .before .before .before .before .before .before .before .perform-on .ensures) (rw (c .before .before .outcome2 .given .1) (c .halt2 .ensures)) (start .pre) (rw (wide .0) at (wide .1))
 
 pub advance-spec : {M : Type 1} → statement M
 advance-spec =
@@ -72,9 +72,9 @@ advance-spec =
     enum-told
     arrive-requires
     enum-known-outcome
-    stop-requires
+    halt-requires
     enum-known-outcome-2
-    stop-requires-2
+    halt-requires-2
     returns
     returns-2
     returns-3)

@@ -8,7 +8,7 @@ use Rattle.step.proofs.runs.begin.Reads as reads
 use Rattle.step.proofs.runs.begin.Lts as lts
 use Rattle.step.proofs.runs.arrive.Reads as arrive-reads
 use Rattle.step.proofs.runs.most.Reads as most-reads
-use Rattle.step.proofs.runs.stop.Reads as stop-reads
+use Rattle.step.proofs.runs.halt.Reads as halt-reads
 
 most-requires : tie.Need-most-requires
 most-requires c κs = search needs
@@ -16,8 +16,8 @@ most-requires c κs = search needs
 arrive-requires : tie.Need-arrive-requires
 arrive-requires c κs = search needs
 
-stop-requires : tie.Need-stop-requires
-stop-requires c κs = search needs
+halt-requires : tie.Need-halt-requires
+halt-requires c κs = search needs
 
 returns : tie.Need-returns
 returns c =
@@ -26,7 +26,7 @@ returns c =
 
 returns-2 : tie.Need-returns-2
 returns-2 c =
-    let s = c .before .before .args in begun (s .len) (s .start) (s .budget) (s .flags) (rw (lt-leb _ _ (c .before .if1 .left)) (c .stop .ensures)) (omega arith)
+    let s = c .before .before .args in begun (s .len) (s .start) (s .budget) (s .flags) (rw (lt-leb _ _ (c .before .if1 .left)) (c .halt .ensures)) (omega arith)
 
 pub begin-spec : {M : Type 1} → statement M
-begin-spec = tie.close (tie.spec most-requires arrive-requires stop-requires returns returns-2)
+begin-spec = tie.close (tie.spec most-requires arrive-requires halt-requires returns returns-2)

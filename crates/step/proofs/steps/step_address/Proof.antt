@@ -9,16 +9,16 @@ use Rattle.step.proofs.steps.step_address.Lts as lts
 use Rattle.step.proofs.registers.read.Reads as read-reads
 use Rattle.step.proofs.registers.write.Reads as write-reads
 use Rattle.step.proofs.steps.both.Reads as both-reads
-use Rattle.step.proofs.steps.concluded.Reads as concluded-reads
+use Rattle.step.proofs.steps.said.Reads as said-reads
 use Rattle.step.proofs.steps.not_byte.Reads as not-byte-reads
 use Rattle.step.proofs.steps.on_address.Reads as on-address-reads
-use Rattle.step.proofs.steps.place_there.Reads as place-there-reads
-use Rattle.step.proofs.steps.place_value.Reads as place-value-reads
+use Rattle.step.proofs.steps.register_there.Reads as register-there-reads
+use Rattle.step.proofs.steps.register_value.Reads as register-value-reads
 use Rattle.step.proofs.steps.refusal.Reads as refusal-reads
 use Rattle.step.proofs.steps.refused.Reads as refused-reads
 
-place-there-requires : tie.Need-place-there-requires
-place-there-requires c κs = search needs
+register-there-requires : tie.Need-register-there-requires
+register-there-requires c κs = search needs
 
 both-requires : tie.Need-both-requires
 both-requires c κs = search needs
@@ -38,8 +38,8 @@ refused-requires c κs = search needs
 enum-told : tie.Need-enum-told
 enum-told c = search needs
 
-place-value-requires : tie.Need-place-value-requires
-place-value-requires c κs = search needs
+register-value-requires : tie.Need-register-value-requires
+register-value-requires c κs = search needs
 
 read-requires : tie.Need-read-requires
 read-requires c κs = search needs
@@ -50,34 +50,34 @@ on-address-requires c κs = search needs
 write-requires : tie.Need-write-requires
 write-requires c κs = search needs
 
-concluded-requires : tie.Need-concluded-requires
-concluded-requires c κs = search needs
+said-requires : tie.Need-said-requires
+said-requires c κs = search needs
 
 returns : tie.Need-returns
 returns c =
     let start = c .before .before .before .before .before .before .before .before .before in
-    faulty-step (held (now (start .args .d)) (now (start .args .a)) (start .args .flags)) _ (rw (c .before .before .before .before .before .not-byte .ensures, c .before .before .before .before .before .before .both .ensures, c .before .before .before .before .before .before .before .before .place-there .ensures) at (c .before .before .before .before .refusal .ensures)) (c .before .before .fault .given .1) (c .refused .ensures)
+    faulty-step (held (now (start .args .d)) (now (start .args .a)) (start .args .flags)) _ (rw (c .before .before .before .before .before .not-byte .ensures, c .before .before .before .before .before .before .both .ensures, c .before .before .before .before .before .before .before .before .register-there .ensures) at (c .before .before .before .before .refusal .ensures)) (c .before .before .fault .given .1) (c .refused .ensures)
 
 returns-2 : tie.Need-returns-2
 returns-2 c =
     let start = c .before .before .before .before .before .before .before .before .before .before .before .before .before .before .before .before in
-    address-step (held (now (start .args .d)) (now (start .args .a)) (start .args .flags)) (start .args .t) (rw (c .before .before .before .before .before .before .before .before .before .before .before .before .not-byte .ensures, c .before .before .before .before .before .before .before .before .before .before .before .before .before .both .ensures, c .before .before .before .before .before .before .before .before .before .before .before .before .before .before .before .place-there .ensures) at (c .before .before .before .before .before .before .before .before .before .before .before .refusal .ensures)) (c .before .before .before .before .before .before .before .before .before .enum-told .given .1) (c .concluded .ensures) (c .before .write .ensures) (rw (c .before .before .before .before .read .ensures, c .before .before .before .before .before .before .before .place-value .ensures (start .args .flags)) at (c .before .before .before .on-address .ensures))
+    address-step (held (now (start .args .d)) (now (start .args .a)) (start .args .flags)) (start .args .t) (rw (c .before .before .before .before .before .before .before .before .before .before .before .before .not-byte .ensures, c .before .before .before .before .before .before .before .before .before .before .before .before .before .both .ensures, c .before .before .before .before .before .before .before .before .before .before .before .before .before .before .before .register-there .ensures) at (c .before .before .before .before .before .before .before .before .before .before .before .refusal .ensures)) (c .before .before .before .before .before .before .before .before .before .enum-told .given .1) (c .said .ensures) (c .before .write .ensures) (rw (c .before .before .before .before .read .ensures, c .before .before .before .before .before .before .before .register-value .ensures (start .args .flags)) at (c .before .before .before .on-address .ensures))
 
 pub step-address-spec : {M : Type 1} → statement M
 step-address-spec =
     tie.close
     (tie.spec
-    place-there-requires
+    register-there-requires
     both-requires
     not-byte-requires
     refusal-requires
     enum-known-fault
     refused-requires
     enum-told
-    place-value-requires
+    register-value-requires
     read-requires
     on-address-requires
     write-requires
-    concluded-requires
+    said-requires
     returns
     returns-2)

@@ -12,7 +12,7 @@ use Rattle.step.proofs.registers.write.Reads as write-reads
 use Rattle.step.proofs.steps.bit.Reads as bit-reads
 use Rattle.step.proofs.steps.bit_number.Reads as bit-number-reads
 use Rattle.step.proofs.steps.both.Reads as both-reads
-use Rattle.step.proofs.steps.concluded.Reads as concluded-reads
+use Rattle.step.proofs.steps.said.Reads as said-reads
 use Rattle.step.proofs.steps.count_there.Reads as count-there-reads
 use Rattle.step.proofs.steps.count_within.Reads as count-within-reads
 use Rattle.step.proofs.steps.is_long.Reads as is-long-reads
@@ -58,8 +58,8 @@ merged-requires c κs = search needs
 write-requires : tie.Need-write-requires
 write-requires c κs = search needs
 
-concluded-requires : tie.Need-concluded-requires
-concluded-requires c κs = search needs
+said-requires : tie.Need-said-requires
+said-requires c κs = search needs
 
 returns : tie.Need-returns
 returns c a =
@@ -69,7 +69,7 @@ returns c a =
 returns-2 : tie.Need-returns-2
 returns-2 c a =
     let start = c .before .before .before .before .before .before .before .before .before .before .before .before .before .before .before .before .before .before in
-    data-step (held (now (start .args .d)) a (start .args .flags)) (start .args .size) (start .args .t) (rw (c .before .before .before .before .before .before .before .before .before .before .before .before .before .count-within .ensures, c .before .before .before .before .before .before .before .before .before .before .before .before .before .before .is-long .ensures, c .before .before .before .before .before .before .before .before .before .before .before .before .before .before .before .both .ensures, c .before .before .before .before .before .before .before .before .before .before .before .before .before .before .before .before .before .count-there .ensures) at (c .before .before .before .before .before .before .before .before .before .before .before .before .refusal .ensures)) (c .before .before .before .before .before .before .before .before .before .before .enum-told .given .1) (c .concluded .ensures) (c .before .write .ensures) (rw (c .before .before .before .before .before .read .ensures) at (c .before .before .merged .ensures)) (rw (c .before .before .before .before .before .read .ensures, c .before .before .before .before .before .before .before .before .bit-number .ensures a (start .args .flags)) at (c .before .before .before .before .bit .ensures))
+    data-step (held (now (start .args .d)) a (start .args .flags)) (start .args .size) (start .args .t) (rw (c .before .before .before .before .before .before .before .before .before .before .before .before .before .count-within .ensures, c .before .before .before .before .before .before .before .before .before .before .before .before .before .before .is-long .ensures, c .before .before .before .before .before .before .before .before .before .before .before .before .before .before .before .both .ensures, c .before .before .before .before .before .before .before .before .before .before .before .before .before .before .before .before .before .count-there .ensures) at (c .before .before .before .before .before .before .before .before .before .before .before .before .refusal .ensures)) (c .before .before .before .before .before .before .before .before .before .before .enum-told .given .1) (c .said .ensures) (c .before .write .ensures) (rw (c .before .before .before .before .before .read .ensures) at (c .before .before .merged .ensures)) (rw (c .before .before .before .before .before .read .ensures, c .before .before .before .before .before .before .before .before .bit-number .ensures a (start .args .flags)) at (c .before .before .before .before .bit .ensures))
 
 pub step-bit-spec : {M : Type 1} → statement M
 step-bit-spec =
@@ -88,6 +88,6 @@ step-bit-spec =
     bit-requires
     merged-requires
     write-requires
-    concluded-requires
+    said-requires
     returns
     returns-2)

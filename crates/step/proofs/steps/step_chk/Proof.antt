@@ -9,7 +9,7 @@ use Rattle.step.proofs.steps.step_chk.Lts as lts
 use Rattle.alu.proofs.integer_arith.exec_chk.Reads as exec-chk-reads
 use Rattle.step.proofs.registers.read.Reads as read-reads
 use Rattle.step.proofs.steps.both.Reads as both-reads
-use Rattle.step.proofs.steps.concluded.Reads as concluded-reads
+use Rattle.step.proofs.steps.said.Reads as said-reads
 use Rattle.step.proofs.steps.is_word.Reads as is-word-reads
 use Rattle.step.proofs.steps.outcome_of.Reads as outcome-of-reads
 use Rattle.step.proofs.steps.refusal.Reads as refusal-reads
@@ -45,8 +45,8 @@ exec-chk-requires c κs = search needs
 outcome-of-requires : tie.Need-outcome-of-requires
 outcome-of-requires c κs = search needs
 
-concluded-requires : tie.Need-concluded-requires
-concluded-requires c κs = search needs
+said-requires : tie.Need-said-requires
+said-requires c κs = search needs
 
 returns : tie.Need-returns
 returns c a =
@@ -56,7 +56,7 @@ returns c a =
 returns-2 : tie.Need-returns-2
 returns-2 c a =
     let start = c .before .before .before .before .before .before .before .before .before .before .before .before .before .before .before in
-    check-step (held (now (start .args .d)) a (start .args .flags)) (rw (c .before .before .before .before .before .before .before .before .before .before .before .is-word .ensures, c .before .before .before .before .before .before .before .before .before .before .before .before .both .ensures) at (c .before .before .before .before .before .before .before .before .before .before .refusal .ensures)) (c .before .before .before .before .before .before .before .before .enum-told .given .1) (c .concluded .ensures) (c .before .outcome-of .ensures) (rw (c .before .before .before .before .read2 .ensures, c .before .before .before .before .before .before .read .ensures) at (c .before .before .before .exec-chk .ensures))
+    check-step (held (now (start .args .d)) a (start .args .flags)) (rw (c .before .before .before .before .before .before .before .before .before .before .before .is-word .ensures, c .before .before .before .before .before .before .before .before .before .before .before .before .both .ensures) at (c .before .before .before .before .before .before .before .before .before .before .refusal .ensures)) (c .before .before .before .before .before .before .before .before .enum-told .given .1) (c .said .ensures) (c .before .outcome-of .ensures) (rw (c .before .before .before .before .read2 .ensures, c .before .before .before .before .before .before .read .ensures) at (c .before .before .before .exec-chk .ensures))
 
 pub step-chk-spec : {M : Type 1} → statement M
 step-chk-spec =
@@ -72,6 +72,6 @@ step-chk-spec =
     read-requires-2
     exec-chk-requires
     outcome-of-requires
-    concluded-requires
+    said-requires
     returns
     returns-2)

@@ -9,7 +9,7 @@ use Rattle.step.proofs.steps.step_one.Lts as lts
 use Rattle.step.proofs.registers.merged.Reads as merged-reads
 use Rattle.step.proofs.registers.read.Reads as read-reads
 use Rattle.step.proofs.registers.write.Reads as write-reads
-use Rattle.step.proofs.steps.concluded.Reads as concluded-reads
+use Rattle.step.proofs.steps.said.Reads as said-reads
 use Rattle.step.proofs.steps.one.Reads as one-reads
 use Rattle.step.proofs.steps.one_size.Reads as one-size-reads
 use Rattle.step.proofs.steps.refusal.Reads as refusal-reads
@@ -42,8 +42,8 @@ merged-requires c κs = search needs
 write-requires : tie.Need-write-requires
 write-requires c κs = search needs
 
-concluded-requires : tie.Need-concluded-requires
-concluded-requires c κs = search needs
+said-requires : tie.Need-said-requires
+said-requires c κs = search needs
 
 returns : tie.Need-returns
 returns c a =
@@ -53,7 +53,7 @@ returns c a =
 returns-2 : tie.Need-returns-2
 returns-2 c a =
     let start = c .before .before .before .before .before .before .before .before .before .before .before .before .before in
-    data-step (held (now (start .args .d)) a (start .args .flags)) (start .args .size) (start .args .t) (rw (c .before .before .before .before .before .before .before .before .before .before .before .one-size .ensures) at (c .before .before .before .before .before .before .before .before .before .before .refusal .ensures)) (c .before .before .before .before .before .before .before .before .enum-told .given .1) (c .concluded .ensures) (c .before .write .ensures) (rw (c .before .before .before .before .before .read .ensures) at (c .before .before .merged .ensures)) (rw (c .before .before .before .before .before .read .ensures) at (c .before .before .before .before .one .ensures))
+    data-step (held (now (start .args .d)) a (start .args .flags)) (start .args .size) (start .args .t) (rw (c .before .before .before .before .before .before .before .before .before .before .before .one-size .ensures) at (c .before .before .before .before .before .before .before .before .before .before .refusal .ensures)) (c .before .before .before .before .before .before .before .before .enum-told .given .1) (c .said .ensures) (c .before .write .ensures) (rw (c .before .before .before .before .before .read .ensures) at (c .before .before .merged .ensures)) (rw (c .before .before .before .before .before .read .ensures) at (c .before .before .before .before .one .ensures))
 
 pub step-one-spec : {M : Type 1} → statement M
 step-one-spec =
@@ -68,6 +68,6 @@ step-one-spec =
     one-requires
     merged-requires
     write-requires
-    concluded-requires
+    said-requires
     returns
     returns-2)

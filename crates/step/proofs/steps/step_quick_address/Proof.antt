@@ -8,7 +8,7 @@ use Rattle.step.proofs.steps.step_quick_address.Reads as reads
 use Rattle.step.proofs.steps.step_quick_address.Lts as lts
 use Rattle.step.proofs.registers.read.Reads as read-reads
 use Rattle.step.proofs.registers.write.Reads as write-reads
-use Rattle.step.proofs.steps.concluded.Reads as concluded-reads
+use Rattle.step.proofs.steps.said.Reads as said-reads
 use Rattle.step.proofs.steps.not_byte.Reads as not-byte-reads
 use Rattle.step.proofs.steps.quick_address.Reads as quick-address-reads
 use Rattle.step.proofs.steps.refusal.Reads as refusal-reads
@@ -46,8 +46,8 @@ quick-address-requires c κs = search needs
 write-requires : tie.Need-write-requires
 write-requires c κs = search needs
 
-concluded-requires : tie.Need-concluded-requires
-concluded-requires c κs = search needs
+said-requires : tie.Need-said-requires
+said-requires c κs = search needs
 
 returns : tie.Need-returns
 returns c d =
@@ -57,7 +57,7 @@ returns c d =
 returns-2 : tie.Need-returns-2
 returns-2 c d =
     let start = c .before .before .before .before .before .before .before .before .before .before .before .before .before .before in
-    address-step (held d (now (start .args .a)) (start .args .flags)) (start .args .t) (rw (c .before .before .before .before .before .before .before .before .before .before .before .within .ensures, c .before .before .before .before .before .before .before .before .before .before .before .before .not-byte .ensures) at (c .before .before .before .before .before .before .before .before .before .before .refusal .ensures)) (c .before .before .before .before .before .before .before .before .enum-told .given .1) (c .concluded .ensures) (c .before .write .ensures) (rw (c .before .before .before .before .wide .ensures, c .before .before .before .before .before .read .ensures) at (c .before .before .before .quick-address .ensures))
+    address-step (held d (now (start .args .a)) (start .args .flags)) (start .args .t) (rw (c .before .before .before .before .before .before .before .before .before .before .before .within .ensures, c .before .before .before .before .before .before .before .before .before .before .before .before .not-byte .ensures) at (c .before .before .before .before .before .before .before .before .before .before .refusal .ensures)) (c .before .before .before .before .before .before .before .before .enum-told .given .1) (c .said .ensures) (c .before .write .ensures) (rw (c .before .before .before .before .wide .ensures, c .before .before .before .before .before .read .ensures) at (c .before .before .before .quick-address .ensures))
 
 pub step-quick-address-spec : {M : Type 1} → statement M
 step-quick-address-spec =
@@ -73,6 +73,6 @@ step-quick-address-spec =
     wide-requires
     quick-address-requires
     write-requires
-    concluded-requires
+    said-requires
     returns
     returns-2)

@@ -1,8 +1,8 @@
 use borrow.Author.Needs.{needs}
-use Rattle.step.proofs.steps.place_value.Statement.{statement}
-use Rattle.step.proofs.steps.place_value.Tie as tie
-use Rattle.step.proofs.steps.place_value.Reads as reads
-use Rattle.step.proofs.steps.place_value.Lts as lts
+use Rattle.step.proofs.steps.register_value.Statement.{statement}
+use Rattle.step.proofs.steps.register_value.Tie as tie
+use Rattle.step.proofs.steps.register_value.Reads as reads
+use Rattle.step.proofs.steps.register_value.Lts as lts
 use Rattle.step.proofs.registers.read.Reads as read-reads
 
 enum-known-p : tie.Need-enum-known-p
@@ -23,7 +23,7 @@ returns c f = simp (c .read .ensures, c .before .before .before .p .given .1)
 returns-2 : tie.Need-returns-2
 returns-2 c f = simp (c .read2 .ensures, c .before .before .before .p2 .given .1)
 
-pub place-value-spec : {M : Type 1} → statement M
-place-value-spec =
+pub register-value-spec : {M : Type 1} → statement M
+register-value-spec =
     tie.close
     (tie.spec enum-known-p read-requires enum-known-p-2 read-requires-2 returns returns-2)

@@ -1,0 +1,35 @@
+-- A run that is halted and continued: what the laws of a run speak of (proofs/Laws), and demand 3 with them. No contract of this crate names anything
+-- of this page. Assumes nothing.
+use Prim.Native.Nat.{ℕ, _+_}
+use mathlib.Core.Bool.{Bool, true, false}
+use mathlib.Core.List.{List, [], _∷_}
+use Rattle.step.specs.declared.registers.State.{State}
+use Rattle.step.specs.declared.steps.Step.{Step}
+use Rattle.step.specs.declared.steps.Performed.{Performed}
+use Rattle.step.specs.declared.runs.End.{End}
+use Rattle.step.specs.declared.runs.End.the-variants as End
+use Rattle.step.specs.declared.runs.Ran.{Ran}
+use Rattle.step.specs.Run.{runOf}
+
+-- n steps and c clocks, and then a run
+abbrev pub after : (n c : ℕ) → Ran → Ran
+after n c r = record { end = r .end; state = r .state; next = r .next; steps = n + r .steps; clocks = c + r .clocks }
+
+-- neither trapped nor refused
+abbrev pub goesOn : End → Bool
+goesOn End.Finished = true
+goesOn End.Budget = true
+goesOn (End.Trapped trap p) = false
+goesOn (End.Refused fault p) = false
+
+-- a run with the budget b, halted there and continued with the next budget of the list, from its state and its next place, and so on: steps and
+-- figures add
+module _ (f : State → Step → Performed) (l : List Step) where
+  abbrev pub runInParts : State → (p b : ℕ) → (bs : List ℕ) → Ran
+  runInParts s p b [] = runOf f l s p b
+  runInParts s p b (c ∷ bs) = let r = runOf f l s p b in after (r .steps) (r .clocks) (runInParts (r .state) (r .next) c bs)
+
+-- the sum of the budgets
+abbrev pub total : (b : ℕ) → (bs : List ℕ) → ℕ
+total b [] = b
+total b (c ∷ bs) = b + total c bs
