@@ -1,4 +1,5 @@
 pub mod Laws
+pub mod Sound
 pub mod Promises
 mod Running
 mod Stepping

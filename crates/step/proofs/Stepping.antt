@@ -1,4 +1,4 @@
--- The arms of a step: it is refused, or an answer goes to a data register, to an address register, or to no register (CHK). v is the verdict that the
+-- The arms of a step: it is refused, or an answer goes to a data register, to an address register, or to no register (CHK). v is the ruling that the
 -- code found, w the definition's, s the state before; the equations are what the calls on the way promise. Assumes nothing.
 use mathlib.Core.Path.{_≡_, sym, _∙_, ap, ap₂}
 use mathlib.Core.List.{List}
