@@ -1,7 +1,7 @@
 -- Terms of private functions' contracts: a step on registers that are lent, and the loop of a run. No promise of a public function names anything of
 -- this page, and a reader of the promises can leave it out. Assumes nothing.
 use mathlib.Core.Path.{_≡_}
-use mathlib.Core.Bool.{false, cond}
+use mathlib.Core.Bool.{Bool, false, cond}
 use mathlib.Core.List.{List}
 use Prim.Native.Nat.{ℕ, _+_, _-_, _*_, _<_, _≤_, _^_}
 use lib.Dec.{ltb, leb}
@@ -37,9 +37,12 @@ refusedOf fault f = record { outcome = Refused fault; flags = f; clocks = 0 }
 
 -- ---- the loop of a run
 
+abbrev pub courseOf : Bool → End → (left next clocks : ℕ) → Flags → Course
+courseOf going e left next clocks f = record { going = going; end = e; left = left; next = next; clocks = clocks; flags = f }
+
 -- a run that has ended
 abbrev pub halted : End → (left next clocks : ℕ) → Flags → Course
-halted e left next clocks f = record { going = false; end = e; left = left; next = next; clocks = clocks; flags = f }
+halted = courseOf false
 
 -- how a run ends that takes no step more at a place of a listing of `len` steps, or at its end
 abbrev pub endAt : (len next : ℕ) → End
@@ -47,14 +50,7 @@ endAt len next = cond (ltb next len) End.Budget End.Finished
 
 -- at such a place
 abbrev pub arriveOf : (len left next clocks : ℕ) → Flags → Course
-arriveOf len left next clocks f = record {
-  going = ltb 0 left;
-  end = endAt len next;
-  left = left;
-  next = next;
-  clocks = clocks;
-  flags = f;
-}
+arriveOf len left next clocks f = courseOf (ltb 0 left) (endAt len next) left next clocks f
 
 -- the steps that a run may take: no more than the budget, and no more than stand from its start to the end
 abbrev pub mostOf : (len start budget : ℕ) → ℕ

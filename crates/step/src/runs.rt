@@ -6,7 +6,7 @@ ghost use lib.Dec.{ltb};
 ghost use lib.ListN.{take};
 ghost use Rattle.step.specs.Perform.{performOf};
 ghost use Rattle.step.specs.Run.{runOf};
-ghost use Rattle.step.specs.Course.{held, halted, endAt, arriveOf, mostOf, beginOf, Advanced, ranOf, Ready};
+ghost use Rattle.step.specs.Course.{held, courseOf, halted, endAt, arriveOf, mostOf, beginOf, Advanced, ranOf, Ready};
 use super::registers::State;
 use super::steps::Fault;
 use super::steps::Outcome;
@@ -44,6 +44,26 @@ pub(crate) struct Course {
     pub flags: Flags,
 }
 
+// Where a run stands. The flags go over one by one, as in alu::types::accepted.
+fn stands(going: bool, end: End, left: u32, next: usize, clocks: u64, flags: Flags) -> Course
+    ensures { λ r. ⌜ r ≡ courseOf going end left next clocks flags ⌝ }
+{
+    Course {
+        going,
+        end,
+        left,
+        next,
+        clocks,
+        flags: Flags {
+            x: flags.x,
+            n: flags.n,
+            z: flags.z,
+            v: flags.v,
+            c: flags.c,
+        },
+    }
+}
+
 // How a run ends that takes no step more at a place of a listing of `len` steps, or at its end.
 fn end_at(len: usize, next: usize) -> End
     ensures { λ r. ⌜ r ≡ endAt len next ⌝ }
@@ -55,45 +75,19 @@ fn end_at(len: usize, next: usize) -> End
     }
 }
 
-// At such a place. The flags go over one by one, as in alu::types::accepted.
+// At such a place.
 fn arrive(len: usize, left: u32, next: usize, clocks: u64, flags: Flags) -> Course
     ensures { λ r. ⌜ r ≡ arriveOf len left next clocks flags ⌝ }
 {
     let end = end_at(len, next);
-    Course {
-        going: 0 < left,
-        end,
-        left,
-        next,
-        clocks,
-        flags: Flags {
-            x: flags.x,
-            n: flags.n,
-            z: flags.z,
-            v: flags.v,
-            c: flags.c,
-        },
-    }
+    stands(0 < left, end, left, next, clocks, flags)
 }
 
 // A run that has ended.
 fn halt(end: End, left: u32, next: usize, clocks: u64, flags: Flags) -> Course
     ensures { λ r. ⌜ r ≡ halted end left next clocks flags ⌝ }
 {
-    Course {
-        going: false,
-        end,
-        left,
-        next,
-        clocks,
-        flags: Flags {
-            x: flags.x,
-            n: flags.n,
-            z: flags.z,
-            v: flags.v,
-            c: flags.c,
-        },
-    }
+    stands(false, end, left, next, clocks, flags)
 }
 
 // The steps that a run may take: one count, so that the loop has one to test.
