@@ -18,8 +18,7 @@ use ghost.Atoms.{Atoms}
 use contract.Monad.{Fun, fact}
 use contract.Lifetimes.{Lfts}
 use denote.Ref.{now}
-use denote.Triple.Clauses.{AtExit}
-use denote.Triple.Entry.{Args, Res}
+use denote.Triple.Entry.{Args}
 use Rattle.alu.proofs.Determined.{Fixed, fixed, one-equation}
 use Rattle.step.specs.declared.registers.State.{State}
 use Rattle.step.specs.declared.steps.Performed.{Performed}

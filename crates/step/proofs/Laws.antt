@@ -3,7 +3,7 @@
 -- j + k: `run-split`; halted however often: `run-in-parts`. Halted after any step it has that step's state, so no run does its work in the first step
 -- and idles: `run-halted`. A budget of the steps that stand there is enough: `run-enough`. Assumes nothing.
 use mathlib.Core.Path.{_≡_, refl, sym, _∙_, ap, subst}
-use mathlib.Core.Bool.{Bool, true, false}
+use mathlib.Core.Bool.{true, false}
 use mathlib.Core.List.{List, [], _∷_}
 use Prim.Native.Nat.{ℕ, zero, suc, _+_, _≤_, _<_}
 use native.Mathlib.Nat.{zero-add, suc-add, add-assoc}

@@ -5,13 +5,12 @@
 --     Steps         a legal step is done, leaves what the operation answers, and has a figure that doesn't hang on the state
 use mathlib.Core.Path.{_≡_, refl, sym, ap, _∙_, subst⁻¹}
 use mathlib.Core.Bool.{Bool, true, false, _&&_}
-use mathlib.Core.List.{List}
 use Prim.Native.Nat.{ℕ, _+_, _-_, _*_, _^_, _<_}
 use native.Mathlib.Nat.{mod-eq-of-lt}
 use native.Mathlib.Omega.{arith}
 use borrow.Author.Tests.{lt-ltb}
 use lib.Dec.{eqb}
-use lib.ListN.{length, getD, set}
+use lib.ListN.{getD, set}
 use Rattle.alu.specs.declared.types.Size.{Size}
 use Rattle.alu.specs.declared.types.Size.the-variants.{Long}
 use Rattle.alu.specs.declared.types.Flags.{Flags}

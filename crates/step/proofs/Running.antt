@@ -1,11 +1,11 @@
 -- The loop of a run: what holds between two steps, and that a step keeps the answer that the run comes to. Over any step function. Assumes nothing.
 use mathlib.Core.Path.{_≡_, refl, sym, _∙_, ap, ap₂, subst⁻¹}
 use mathlib.Core.Bool.{Bool, true, false, cond}
-use mathlib.Core.List.{List, [], _∷_}
+use mathlib.Core.List.{List}
 use Prim.Native.Nat.{ℕ, zero, suc, _+_, _-_, _*_, _<_, _≤_, _^_}
 use native.Mathlib.Omega.{arith}
-use native.Mathlib.Numerals.{one-add, add-one}
-use native.Mathlib.Nat.{zero-add, add-zero, add-assoc}
+use native.Mathlib.Numerals.{add-one}
+use native.Mathlib.Nat.{add-zero}
 use lib.Dec.{ltb, leb}
 use lib.ListN.{length, take, getD}
 use lib.Seq.{getD-take, length-take-le, take-all}

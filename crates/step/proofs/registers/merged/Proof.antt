@@ -1,8 +1,6 @@
 use borrow.Author.Needs.{needs}
 use Rattle.step.proofs.registers.merged.Statement.{statement}
 use Rattle.step.proofs.registers.merged.Tie as tie
-use Rattle.step.proofs.registers.merged.Reads as reads
-use Rattle.step.proofs.registers.merged.Lts as lts
 
 enum-told : tie.Need-enum-told
 enum-told c = search needs

@@ -6,9 +6,6 @@ use lib.ListN.{length, List·getD-eq-default}
 use borrow.Author.Needs.{needs}
 use Rattle.step.proofs.registers.read.Statement.{statement}
 use Rattle.step.proofs.registers.read.Tie as tie
-use Rattle.step.proofs.registers.read.Reads as reads
-use Rattle.step.proofs.registers.read.Lts as lts
-use Rattle.step.proofs.registers.wide.Reads as wide-reads
 
 wide-requires : tie.Need-wide-requires
 wide-requires c κs = search needs

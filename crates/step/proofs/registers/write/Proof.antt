@@ -7,9 +7,6 @@ use lib.Seq.{set-out}
 use borrow.Author.Needs.{needs}
 use Rattle.step.proofs.registers.write.Statement.{statement}
 use Rattle.step.proofs.registers.write.Tie as tie
-use Rattle.step.proofs.registers.write.Reads as reads
-use Rattle.step.proofs.registers.write.Lts as lts
-use Rattle.step.proofs.registers.wide.Reads as wide-reads
 
 wide-requires : tie.Need-wide-requires
 wide-requires c κs = search needs

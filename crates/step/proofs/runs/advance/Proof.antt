@@ -2,12 +2,6 @@ use Rattle.step.proofs.Running.{advanced}
 use borrow.Author.Needs.{needs}
 use Rattle.step.proofs.runs.advance.Statement.{statement}
 use Rattle.step.proofs.runs.advance.Tie as tie
-use Rattle.step.proofs.runs.advance.Reads as reads
-use Rattle.step.proofs.runs.advance.Lts as lts
-use Rattle.step.proofs.runs.arrive.Reads as arrive-reads
-use Rattle.step.proofs.runs.halt.Reads as halt-reads
-use Rattle.step.proofs.runs.wide.Reads as wide-reads
-use Rattle.step.proofs.steps.perform_on.Reads as perform-on-reads
 
 perform-on-requires : tie.Need-perform-on-requires
 perform-on-requires c κs = search needs

@@ -4,11 +4,6 @@ use Rattle.step.proofs.Running.{begun}
 use borrow.Author.Needs.{needs}
 use Rattle.step.proofs.runs.begin.Statement.{statement}
 use Rattle.step.proofs.runs.begin.Tie as tie
-use Rattle.step.proofs.runs.begin.Reads as reads
-use Rattle.step.proofs.runs.begin.Lts as lts
-use Rattle.step.proofs.runs.arrive.Reads as arrive-reads
-use Rattle.step.proofs.runs.most.Reads as most-reads
-use Rattle.step.proofs.runs.halt.Reads as halt-reads
 
 most-requires : tie.Need-most-requires
 most-requires c κs = search needs

@@ -1,9 +1,6 @@
 use borrow.Author.Tests.{lt-ltb, le-ltb}
-use borrow.Author.Needs.{needs}
 use Rattle.step.proofs.runs.lesser.Statement.{statement}
 use Rattle.step.proofs.runs.lesser.Tie as tie
-use Rattle.step.proofs.runs.lesser.Reads as reads
-use Rattle.step.proofs.runs.lesser.Lts as lts
 
 returns : tie.Need-returns
 returns c = rw (lt-ltb _ _ (c .if1 .taken))

@@ -2,8 +2,6 @@ use borrow.Author.Tests.{lt-ltb, le-ltb}
 use borrow.Author.Needs.{needs}
 use Rattle.step.proofs.runs.most.Statement.{statement}
 use Rattle.step.proofs.runs.most.Tie as tie
-use Rattle.step.proofs.runs.most.Reads as reads
-use Rattle.step.proofs.runs.most.Lts as lts
 
 sub-rest : tie.Need-sub-rest
 sub-rest c = search needs

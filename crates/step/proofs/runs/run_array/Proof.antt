@@ -1,5 +1,5 @@
 use mathlib.Core.Path.{_≡_, refl, sym, _∙_}
-use mathlib.Core.Bool.{true, false}
+use mathlib.Core.Bool.{true}
 use native.Mathlib.Omega.{arith}
 use Prim.Native.Nat.{_≤_}
 use lib.ListN.{length, take}
@@ -9,12 +9,6 @@ use Rattle.step.proofs.Running.{answerOf, leftOf, turn-less, lesser-le,
 use borrow.Author.Needs.{needs}
 use Rattle.step.proofs.runs.run_array.Statement.{statement}
 use Rattle.step.proofs.runs.run_array.Tie as tie
-use Rattle.step.proofs.runs.run_array.Reads as reads
-use Rattle.step.proofs.runs.run_array.Lts as lts
-use Rattle.step.proofs.runs.advance.Reads as advance-reads
-use Rattle.step.proofs.runs.begin.Reads as begin-reads
-use Rattle.step.proofs.runs.ended.Reads as ended-reads
-use Rattle.step.proofs.runs.lesser.Reads as lesser-reads
 
 abbrev Inv-loop : tie.InvT-loop
 Inv-loop count start budget listing len d₀ a₀ on₀ first going₀ d a on going =

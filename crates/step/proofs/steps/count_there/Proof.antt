@@ -1,8 +1,6 @@
 use borrow.Author.Needs.{needs}
 use Rattle.step.proofs.steps.count_there.Statement.{statement}
 use Rattle.step.proofs.steps.count_there.Tie as tie
-use Rattle.step.proofs.steps.count_there.Reads as reads
-use Rattle.step.proofs.steps.count_there.Lts as lts
 
 enum-told : tie.Need-enum-told
 enum-told c = search needs

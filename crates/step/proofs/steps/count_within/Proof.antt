@@ -1,9 +1,6 @@
 use borrow.Author.Needs.{needs}
 use Rattle.step.proofs.steps.count_within.Statement.{statement}
 use Rattle.step.proofs.steps.count_within.Tie as tie
-use Rattle.step.proofs.steps.count_within.Reads as reads
-use Rattle.step.proofs.steps.count_within.Lts as lts
-use Rattle.step.proofs.steps.within.Reads as within-reads
 
 enum-known-c : tie.Need-enum-known-c
 enum-known-c c = search needs

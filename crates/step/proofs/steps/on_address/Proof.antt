@@ -1,11 +1,6 @@
 use borrow.Author.Needs.{needs}
 use Rattle.step.proofs.steps.on_address.Statement.{statement}
 use Rattle.step.proofs.steps.on_address.Tie as tie
-use Rattle.step.proofs.steps.on_address.Reads as reads
-use Rattle.step.proofs.steps.on_address.Lts as lts
-use Rattle.alu.proofs.integer_arith.exec_adda.Reads as exec-adda-reads
-use Rattle.alu.proofs.integer_arith.exec_cmpa.Reads as exec-cmpa-reads
-use Rattle.alu.proofs.integer_arith.exec_suba.Reads as exec-suba-reads
 
 enum-told : tie.Need-enum-told
 enum-told c = search needs

@@ -1,8 +1,6 @@
 use borrow.Author.Needs.{needs}
 use Rattle.step.proofs.steps.outcome_of.Statement.{statement}
 use Rattle.step.proofs.steps.outcome_of.Tie as tie
-use Rattle.step.proofs.steps.outcome_of.Reads as reads
-use Rattle.step.proofs.steps.outcome_of.Lts as lts
 
 enum-told : tie.Need-enum-told
 enum-told c = search needs

@@ -2,16 +2,6 @@ use denote.Ref.{now}
 use borrow.Author.Needs.{needs}
 use Rattle.step.proofs.steps.perform_on.Statement.{statement}
 use Rattle.step.proofs.steps.perform_on.Tie as tie
-use Rattle.step.proofs.steps.perform_on.Reads as reads
-use Rattle.step.proofs.steps.perform_on.Lts as lts
-use Rattle.step.proofs.steps.step_address.Reads as step-address-reads
-use Rattle.step.proofs.steps.step_bit.Reads as step-bit-reads
-use Rattle.step.proofs.steps.step_chk.Reads as step-chk-reads
-use Rattle.step.proofs.steps.step_one.Reads as step-one-reads
-use Rattle.step.proofs.steps.step_quick.Reads as step-quick-reads
-use Rattle.step.proofs.steps.step_quick_address.Reads as step-quick-address-reads
-use Rattle.step.proofs.steps.step_shift.Reads as step-shift-reads
-use Rattle.step.proofs.steps.step_two.Reads as step-two-reads
 
 enum-known-form : tie.Need-enum-known-form
 enum-known-form c = search needs

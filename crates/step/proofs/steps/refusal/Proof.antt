@@ -1,8 +1,5 @@
-use borrow.Author.Needs.{needs}
 use Rattle.step.proofs.steps.refusal.Statement.{statement}
 use Rattle.step.proofs.steps.refusal.Tie as tie
-use Rattle.step.proofs.steps.refusal.Reads as reads
-use Rattle.step.proofs.steps.refusal.Lts as lts
 
 returns : tie.Need-returns
 returns c = cc

@@ -1,8 +1,6 @@
 use borrow.Author.Needs.{needs}
 use Rattle.step.proofs.steps.register_there.Statement.{statement}
 use Rattle.step.proofs.steps.register_there.Tie as tie
-use Rattle.step.proofs.steps.register_there.Reads as reads
-use Rattle.step.proofs.steps.register_there.Lts as lts
 
 enum-known-p : tie.Need-enum-known-p
 enum-known-p c = search needs

@@ -1,9 +1,6 @@
 use borrow.Author.Needs.{needs}
 use Rattle.step.proofs.steps.register_value.Statement.{statement}
 use Rattle.step.proofs.steps.register_value.Tie as tie
-use Rattle.step.proofs.steps.register_value.Reads as reads
-use Rattle.step.proofs.steps.register_value.Lts as lts
-use Rattle.step.proofs.registers.read.Reads as read-reads
 
 enum-known-p : tie.Need-enum-known-p
 enum-known-p c = search needs

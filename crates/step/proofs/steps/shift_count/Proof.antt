@@ -1,10 +1,6 @@
 use borrow.Author.Needs.{needs}
 use Rattle.step.proofs.steps.shift_count.Statement.{statement}
 use Rattle.step.proofs.steps.shift_count.Tie as tie
-use Rattle.step.proofs.steps.shift_count.Reads as reads
-use Rattle.step.proofs.steps.shift_count.Lts as lts
-use Rattle.step.proofs.registers.read.Reads as read-reads
-use Rattle.step.proofs.steps.wide.Reads as wide-reads
 
 enum-known-c : tie.Need-enum-known-c
 enum-known-c c = search needs

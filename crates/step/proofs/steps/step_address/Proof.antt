@@ -4,18 +4,6 @@ use Rattle.step.proofs.Stepping.{faulty-step, address-step}
 use borrow.Author.Needs.{needs}
 use Rattle.step.proofs.steps.step_address.Statement.{statement}
 use Rattle.step.proofs.steps.step_address.Tie as tie
-use Rattle.step.proofs.steps.step_address.Reads as reads
-use Rattle.step.proofs.steps.step_address.Lts as lts
-use Rattle.step.proofs.registers.read.Reads as read-reads
-use Rattle.step.proofs.registers.write.Reads as write-reads
-use Rattle.step.proofs.steps.both.Reads as both-reads
-use Rattle.step.proofs.steps.said.Reads as said-reads
-use Rattle.step.proofs.steps.not_byte.Reads as not-byte-reads
-use Rattle.step.proofs.steps.on_address.Reads as on-address-reads
-use Rattle.step.proofs.steps.register_there.Reads as register-there-reads
-use Rattle.step.proofs.steps.register_value.Reads as register-value-reads
-use Rattle.step.proofs.steps.refusal.Reads as refusal-reads
-use Rattle.step.proofs.steps.refused.Reads as refused-reads
 
 register-there-requires : tie.Need-register-there-requires
 register-there-requires c κs = search needs

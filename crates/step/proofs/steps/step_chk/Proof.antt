@@ -4,16 +4,6 @@ use Rattle.step.proofs.Stepping.{faulty-step, check-step}
 use borrow.Author.Needs.{needs}
 use Rattle.step.proofs.steps.step_chk.Statement.{statement}
 use Rattle.step.proofs.steps.step_chk.Tie as tie
-use Rattle.step.proofs.steps.step_chk.Reads as reads
-use Rattle.step.proofs.steps.step_chk.Lts as lts
-use Rattle.alu.proofs.integer_arith.exec_chk.Reads as exec-chk-reads
-use Rattle.step.proofs.registers.read.Reads as read-reads
-use Rattle.step.proofs.steps.both.Reads as both-reads
-use Rattle.step.proofs.steps.said.Reads as said-reads
-use Rattle.step.proofs.steps.is_word.Reads as is-word-reads
-use Rattle.step.proofs.steps.outcome_of.Reads as outcome-of-reads
-use Rattle.step.proofs.steps.refusal.Reads as refusal-reads
-use Rattle.step.proofs.steps.refused.Reads as refused-reads
 
 both-requires : tie.Need-both-requires
 both-requires c κs = search needs

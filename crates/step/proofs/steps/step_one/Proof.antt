@@ -4,16 +4,6 @@ use Rattle.step.proofs.Stepping.{faulty-step, data-step}
 use borrow.Author.Needs.{needs}
 use Rattle.step.proofs.steps.step_one.Statement.{statement}
 use Rattle.step.proofs.steps.step_one.Tie as tie
-use Rattle.step.proofs.steps.step_one.Reads as reads
-use Rattle.step.proofs.steps.step_one.Lts as lts
-use Rattle.step.proofs.registers.merged.Reads as merged-reads
-use Rattle.step.proofs.registers.read.Reads as read-reads
-use Rattle.step.proofs.registers.write.Reads as write-reads
-use Rattle.step.proofs.steps.said.Reads as said-reads
-use Rattle.step.proofs.steps.one.Reads as one-reads
-use Rattle.step.proofs.steps.one_size.Reads as one-size-reads
-use Rattle.step.proofs.steps.refusal.Reads as refusal-reads
-use Rattle.step.proofs.steps.refused.Reads as refused-reads
 
 one-size-requires : tie.Need-one-size-requires
 one-size-requires c κs = search needs

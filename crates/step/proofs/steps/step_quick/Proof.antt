@@ -4,17 +4,6 @@ use Rattle.step.proofs.Stepping.{faulty-step, data-step}
 use borrow.Author.Needs.{needs}
 use Rattle.step.proofs.steps.step_quick.Statement.{statement}
 use Rattle.step.proofs.steps.step_quick.Tie as tie
-use Rattle.step.proofs.steps.step_quick.Reads as reads
-use Rattle.step.proofs.steps.step_quick.Lts as lts
-use Rattle.step.proofs.registers.merged.Reads as merged-reads
-use Rattle.step.proofs.registers.read.Reads as read-reads
-use Rattle.step.proofs.registers.write.Reads as write-reads
-use Rattle.step.proofs.steps.said.Reads as said-reads
-use Rattle.step.proofs.steps.quick.Reads as quick-reads
-use Rattle.step.proofs.steps.refusal.Reads as refusal-reads
-use Rattle.step.proofs.steps.refused.Reads as refused-reads
-use Rattle.step.proofs.steps.wide.Reads as wide-reads
-use Rattle.step.proofs.steps.within.Reads as within-reads
 
 within-requires : tie.Need-within-requires
 within-requires c κs = search needs

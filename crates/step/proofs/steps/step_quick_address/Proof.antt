@@ -4,17 +4,6 @@ use Rattle.step.proofs.Stepping.{faulty-step, address-step}
 use borrow.Author.Needs.{needs}
 use Rattle.step.proofs.steps.step_quick_address.Statement.{statement}
 use Rattle.step.proofs.steps.step_quick_address.Tie as tie
-use Rattle.step.proofs.steps.step_quick_address.Reads as reads
-use Rattle.step.proofs.steps.step_quick_address.Lts as lts
-use Rattle.step.proofs.registers.read.Reads as read-reads
-use Rattle.step.proofs.registers.write.Reads as write-reads
-use Rattle.step.proofs.steps.said.Reads as said-reads
-use Rattle.step.proofs.steps.not_byte.Reads as not-byte-reads
-use Rattle.step.proofs.steps.quick_address.Reads as quick-address-reads
-use Rattle.step.proofs.steps.refusal.Reads as refusal-reads
-use Rattle.step.proofs.steps.refused.Reads as refused-reads
-use Rattle.step.proofs.steps.wide.Reads as wide-reads
-use Rattle.step.proofs.steps.within.Reads as within-reads
 
 not-byte-requires : tie.Need-not-byte-requires
 not-byte-requires c κs = search needs

@@ -4,19 +4,6 @@ use Rattle.step.proofs.Stepping.{faulty-step, data-step}
 use borrow.Author.Needs.{needs}
 use Rattle.step.proofs.steps.step_shift.Statement.{statement}
 use Rattle.step.proofs.steps.step_shift.Tie as tie
-use Rattle.step.proofs.steps.step_shift.Reads as reads
-use Rattle.step.proofs.steps.step_shift.Lts as lts
-use Rattle.step.proofs.registers.merged.Reads as merged-reads
-use Rattle.step.proofs.registers.read.Reads as read-reads
-use Rattle.step.proofs.registers.write.Reads as write-reads
-use Rattle.step.proofs.steps.both.Reads as both-reads
-use Rattle.step.proofs.steps.said.Reads as said-reads
-use Rattle.step.proofs.steps.count_there.Reads as count-there-reads
-use Rattle.step.proofs.steps.count_within.Reads as count-within-reads
-use Rattle.step.proofs.steps.refusal.Reads as refusal-reads
-use Rattle.step.proofs.steps.refused.Reads as refused-reads
-use Rattle.step.proofs.steps.shift.Reads as shift-reads
-use Rattle.step.proofs.steps.shift_count.Reads as shift-count-reads
 
 count-there-requires : tie.Need-count-there-requires
 count-there-requires c κs = search needs

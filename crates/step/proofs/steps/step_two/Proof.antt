@@ -4,16 +4,6 @@ use Rattle.step.proofs.Stepping.{faulty-step, data-step}
 use borrow.Author.Needs.{needs}
 use Rattle.step.proofs.steps.step_two.Statement.{statement}
 use Rattle.step.proofs.steps.step_two.Tie as tie
-use Rattle.step.proofs.steps.step_two.Reads as reads
-use Rattle.step.proofs.steps.step_two.Lts as lts
-use Rattle.step.proofs.registers.merged.Reads as merged-reads
-use Rattle.step.proofs.registers.read.Reads as read-reads
-use Rattle.step.proofs.registers.write.Reads as write-reads
-use Rattle.step.proofs.steps.both.Reads as both-reads
-use Rattle.step.proofs.steps.said.Reads as said-reads
-use Rattle.step.proofs.steps.refusal.Reads as refusal-reads
-use Rattle.step.proofs.steps.refused.Reads as refused-reads
-use Rattle.step.proofs.steps.two.Reads as two-reads
 
 both-requires : tie.Need-both-requires
 both-requires c κs = search needs
