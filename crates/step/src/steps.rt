@@ -427,6 +427,7 @@ fn refused(fault: Fault, flags: Flags) -> Acted
     }
 }
 
+// ADD, SUB, CMP, ADDX, SUBX Ds,Dt
 fn step_two(d: &mut [u32; 8], flags: Flags, size: Size, op: TwoOp, s: D, t: D) -> Acted
     ensures { λ r. ⌜ ((a : List ℕ) → leaving (now (d .exit)) a r ≡ performForm (held (now (d .entry)) a flags) size (Form.Two op s t)) ⌝ }
 {
@@ -442,21 +443,22 @@ fn step_two(d: &mut [u32; 8], flags: Flags, size: Size, op: TwoOp, s: D, t: D) -
     }
 }
 
+// ADDA, SUBA, CMPA Ds,At or As,At
 fn step_address(
     d: &[u32; 8],
     a: &mut [u32; 8],
     flags: Flags,
     size: Size,
     op: AddressOp,
-    p: Register,
+    s: Register,
     t: A,
 ) -> Acted
-    ensures { λ r. ⌜ leaving (now (d .entry)) (now (a .exit)) r ≡ performForm (held (now (d .entry)) (now (a .entry)) flags) size (Form.Address op p t) ⌝ }
+    ensures { λ r. ⌜ leaving (now (d .entry)) (now (a .exit)) r ≡ performForm (held (now (d .entry)) (now (a .entry)) flags) size (Form.Address op s t) ⌝ }
 {
-    match refusal(both(register_there(p), t.0 < 8), not_byte(size), true) {
+    match refusal(both(register_there(s), t.0 < 8), not_byte(size), true) {
         Ruling::Faulty(fault) => refused(fault, flags),
         Ruling::Sound => {
-            let src = register_value(d, a, p);
+            let src = register_value(d, a, s);
             let dst = read(a, t.0);
             let answer = on_address(op, size, src, dst, flags);
             write(a, t.0, answer.result);
@@ -465,6 +467,7 @@ fn step_address(
     }
 }
 
+// ADDQ, SUBQ #k,Dt
 fn step_quick(d: &mut [u32; 8], flags: Flags, size: Size, op: QuickOp, k: u8, t: D) -> Acted
     ensures { λ r. ⌜ ((a : List ℕ) → leaving (now (d .exit)) a r ≡ performForm (held (now (d .entry)) a flags) size (Form.Quick op k (Register.Data t))) ⌝ }
 {
@@ -479,6 +482,7 @@ fn step_quick(d: &mut [u32; 8], flags: Flags, size: Size, op: QuickOp, k: u8, t:
     }
 }
 
+// ADDQ, SUBQ #k,At
 fn step_quick_address(a: &mut [u32; 8], flags: Flags, size: Size, op: QuickOp, k: u8, t: A) -> Acted
     ensures { λ r. ⌜ ((d : List ℕ) → leaving d (now (a .exit)) r ≡ performForm (held d (now (a .entry)) flags) size (Form.Quick op k (Register.Address t))) ⌝ }
 {
@@ -493,6 +497,7 @@ fn step_quick_address(a: &mut [u32; 8], flags: Flags, size: Size, op: QuickOp, k
     }
 }
 
+// CLR, NEG, NEGX, NOT, EXT Dt
 fn step_one(d: &mut [u32; 8], flags: Flags, size: Size, op: OneOp, t: D) -> Acted
     ensures { λ r. ⌜ ((a : List ℕ) → leaving (now (d .exit)) a r ≡ performForm (held (now (d .entry)) a flags) size (Form.One op t)) ⌝ }
 {
@@ -507,6 +512,7 @@ fn step_one(d: &mut [u32; 8], flags: Flags, size: Size, op: OneOp, t: D) -> Acte
     }
 }
 
+// ASL, ASR, LSL, LSR, ROL, ROR, ROXL, ROXR #c,Dt or Dc,Dt
 fn step_shift(d: &mut [u32; 8], flags: Flags, size: Size, op: ShiftOp, c: Count, t: D) -> Acted
     ensures { λ r. ⌜ ((a : List ℕ) → leaving (now (d .exit)) a r ≡ performForm (held (now (d .entry)) a flags) size (Form.Shift op c t)) ⌝ }
 {
@@ -522,6 +528,7 @@ fn step_shift(d: &mut [u32; 8], flags: Flags, size: Size, op: ShiftOp, c: Count,
     }
 }
 
+// BTST, BSET, BCLR, BCHG #c,Dt or Dc,Dt
 fn step_bit(d: &mut [u32; 8], flags: Flags, size: Size, op: BitOp, c: Count, t: D) -> Acted
     ensures { λ r. ⌜ ((a : List ℕ) → leaving (now (d .exit)) a r ≡ performForm (held (now (d .entry)) a flags) size (Form.Bit op c t)) ⌝ }
 {
@@ -541,6 +548,7 @@ fn step_bit(d: &mut [u32; 8], flags: Flags, size: Size, op: BitOp, c: Count, t: 
     }
 }
 
+// CHK Ds,Dt: the bound is in Ds. No register is written
 fn step_chk(d: &[u32; 8], flags: Flags, size: Size, s: D, t: D) -> Acted
     ensures { λ r. ⌜ ((a : List ℕ) → leaving (now (d .entry)) a r ≡ performForm (held (now (d .entry)) a flags) size (Form.Chk s t)) ⌝ }
 {
