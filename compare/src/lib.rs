@@ -21,6 +21,8 @@ pub mod oracle;
 pub mod packed;
 #[cfg(feature = "port")]
 pub mod port;
+#[cfg(feature = "step")]
+pub mod ported;
 pub mod shim;
 pub mod steps;
 pub mod tuned;

@@ -1,13 +1,16 @@
-//! Step records, and the listings that `runs` runs: made of random numbers, the same as compare/laps/lib.rt makes in
-//! Rattle. A digest stands for all that the runs of a listing answer.
+//! Step records, laid out as the port lays out its own (C's layout, a byte for a variant, its fields after it), so that one
+//! listing in memory is run by both; and the listings that `runs` runs, made of random numbers. A digest stands for all
+//! that the runs of a listing answer.
 
 #[derive(Clone, Copy, PartialEq)]
+#[repr(u8)]
 pub enum Size {
     Byte,
     Word,
     Long,
 }
 #[derive(Clone, Copy)]
+#[repr(C)]
 pub struct Flags {
     pub x: bool,
     pub n: bool,
@@ -16,6 +19,7 @@ pub struct Flags {
     pub c: bool,
 }
 #[derive(Clone, Copy)]
+#[repr(u8)]
 pub enum Two {
     Add,
     Sub,
@@ -24,17 +28,20 @@ pub enum Two {
     Subx,
 }
 #[derive(Clone, Copy)]
+#[repr(u8)]
 pub enum Adr {
     Adda,
     Suba,
     Cmpa,
 }
 #[derive(Clone, Copy)]
+#[repr(u8)]
 pub enum Quick {
     Addq,
     Subq,
 }
 #[derive(Clone, Copy)]
+#[repr(u8)]
 pub enum One {
     Clr,
     Neg,
@@ -43,6 +50,7 @@ pub enum One {
     Ext,
 }
 #[derive(Clone, Copy)]
+#[repr(u8)]
 pub enum Shift {
     Asl,
     Asr,
@@ -54,6 +62,7 @@ pub enum Shift {
     Roxr,
 }
 #[derive(Clone, Copy)]
+#[repr(u8)]
 pub enum Bit {
     Btst,
     Bset,
@@ -61,16 +70,19 @@ pub enum Bit {
     Bchg,
 }
 #[derive(Clone, Copy)]
+#[repr(u8)]
 pub enum Register {
     Data(u8),
     Address(u8),
 }
 #[derive(Clone, Copy)]
+#[repr(u8)]
 pub enum Count {
     Small(u8),
     Data(u8),
 }
 #[derive(Clone, Copy)]
+#[repr(u8)]
 pub enum Form {
     Two(Two, u8, u8),
     Address(Adr, Register, u8),
@@ -81,11 +93,13 @@ pub enum Form {
     Chk(u8, u8),
 }
 #[derive(Clone, Copy)]
+#[repr(C)]
 pub struct Step {
     pub size: Size,
     pub form: Form,
 }
 #[derive(Clone, Copy)]
+#[repr(C)]
 pub struct State {
     pub d: [u32; 8],
     pub a: [u32; 8],
@@ -94,22 +108,24 @@ pub struct State {
 #[derive(Clone, Copy)]
 #[repr(u8)]
 pub enum Fault {
-    Small = 1,
-    NoSize = 2,
-    NoRegister = 3,
-    StartPastEnd = 10,
+    Small,
+    NoSize,
+    NoRegister,
+    StartPastEnd,
 }
 #[derive(Clone, Copy)]
 #[repr(u8)]
 pub enum Class {
-    Over = 1,
-    Short = 2,
-    Below = 3,
+    Over,
+    Short,
+    Below,
 }
 pub enum Stop {
     Trapped(Class, u32),
     Refused(Fault),
 }
+#[derive(Clone, Copy)]
+#[repr(u8)]
 pub enum End {
     Finished,
     Budget,
@@ -198,14 +214,12 @@ fn step_of(kinds: u32, x: u32, y: u32) -> Step {
     Step { size, form: form_of(kind, k, small, source, target) }
 }
 
-pub fn listing_of(kinds: u32, seed: u32) -> Vec<Step> {
+pub fn listing_of(kinds: u32, seed: u32) -> [Step; 256] {
     let mut x = seed;
-    (0..256)
-        .map(|_| {
-            x = next(x);
-            step_of(kinds, x / 256, next(x) / 256)
-        })
-        .collect()
+    std::array::from_fn(|_| {
+        x = next(x);
+        step_of(kinds, x / 256, next(x) / 256)
+    })
 }
 
 const PRIME: u64 = 1_000_000_007;

@@ -5,17 +5,12 @@
 //!   runs speed [ROUNDS]     nanoseconds a step of a listing of 256 mixed steps, and of each kind alone
 
 use compare::machine::Machine;
-use compare::steps::{FIRST, MIXED, State, WILD, answered, listing_of, registers};
+use compare::ported;
+use compare::steps::{FIRST, MIXED, Ran, State, Step, WILD, answered, listing_of, registers};
 use compare::tuned;
 use std::hint::black_box;
 use std::process::ExitCode;
 use std::time::Instant;
-
-unsafe extern "C" {
-    safe fn laps_array(kinds: u32, seed: u32, rounds: u32, count: u64, start: u64, budget: u32) -> u64;
-    safe fn laps_run(kinds: u32, seed: u32, rounds: u32, count: u64, start: u64, budget: u32) -> u64;
-    safe fn laps_steps(kinds: u32, seed: u32, rounds: u32, count: u64, start: u64, budget: u32) -> u64;
-}
 
 /// Rounds of runs of one listing's first `count` steps, each from the state that the last one left.
 #[derive(Clone, Copy)]
@@ -28,19 +23,29 @@ struct Laps {
     budget: u32,
 }
 
-type Port = extern "C" fn(u32, u32, u32, u64, u64, u32) -> u64;
+/// A run of a listing's first steps: listing, how many, state, start place, budget.
+type Run = fn(&[Step; 256], usize, &mut State, usize, u32) -> Ran;
+
+fn slice(listing: &[Step; 256], count: usize, state: &mut State, start: usize, budget: u32) -> Ran {
+    ported::run(&listing[..count], state, start, budget)
+}
+
+/// By single steps, of a copy of the listing that the port itself has written.
+fn steps(listing: &[Step; 256], count: usize, state: &mut State, start: usize, budget: u32) -> Ran {
+    ported::by_steps(&ported::stored(listing)[..count], state, start, budget)
+}
+
+fn by_hand(listing: &[Step; 256], count: usize, state: &mut State, start: usize, budget: u32) -> Ran {
+    tuned::run(&listing[..count], state, start, budget)
+}
 
 impl Laps {
-    fn port(self, run: Port) -> u64 {
-        run(self.kinds, self.seed, self.rounds, self.count as u64, self.start as u64, self.budget)
-    }
-
-    fn tuned(self) -> u64 {
+    fn digest(self, run: Run) -> u64 {
         let listing = listing_of(self.kinds, self.seed);
         let mut state: State = FIRST;
         let mut sum = 0;
         for _ in 0..self.rounds {
-            sum = answered(sum, &tuned::run(&listing[..self.count], &mut state, self.start, self.budget));
+            sum = answered(sum, &run(&listing, self.count, &mut state, self.start, self.budget));
         }
         registers(sum, &state)
     }
@@ -58,8 +63,8 @@ impl Laps {
 
 /// A listing's digest, from everyone who can run it; false if two differ.
 fn agrees(laps: Laps) -> bool {
-    let want = laps.tuned();
-    let ported = [laps_array, laps_run, laps_steps].map(|run| laps.port(run as Port));
+    let want = laps.digest(by_hand);
+    let ported = [ported::run_array, slice, steps].map(|run: Run| laps.digest(run));
     let crates = laps.kinds == WILD || laps.start > laps.count || laps.source() == want;
     let good = crates && ported.iter().all(|&got| got == want);
     if !good {
@@ -126,7 +131,9 @@ fn speed(rounds: u32) -> ExitCode {
     for (name, kinds) in KINDS {
         let laps = Laps { kinds, seed: 1, rounds, count: 256, start: 0, budget: 100_000 };
         let Some(best) =
-            best(&[&|| laps.port(laps_array), &|| laps.port(laps_run), &|| laps.source(), &|| laps.tuned()])
+            best(&[&|| laps.digest(ported::run_array), &|| laps.digest(slice), &|| laps.source(), &|| {
+                laps.digest(by_hand)
+            }])
         else {
             println!("DIFFERS: {name}");
             return ExitCode::FAILURE;

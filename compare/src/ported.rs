@@ -1,0 +1,134 @@
+//! The port's steps and runs, called as the kit compiles them: a struct goes by a pointer to it, the answer's first, and a
+//! slice by a pointer to its pointer and length. The layouts are those of `steps`; a digest of all answers tells if one
+//! is not.
+
+use crate::steps::{Class, End, Fault, Ran, State, Step};
+use std::mem::MaybeUninit;
+
+/// step::runs::Ran
+#[repr(C)]
+#[derive(Clone, Copy)]
+struct Answer {
+    end: End,
+    state: State,
+    next: usize,
+    steps: u32,
+    clocks: u64,
+}
+
+/// step::steps::Outcome
+#[repr(u8)]
+#[derive(Clone, Copy)]
+#[allow(dead_code)] // made by the port
+enum Outcome {
+    Done,
+    Trapped(Class),
+    Refused(Fault),
+}
+
+/// step::lent::Told
+#[repr(C)]
+#[derive(Clone, Copy)]
+struct Told {
+    outcome: Outcome,
+    clocks: u32,
+}
+
+/// &[Step] or &mut [Step]
+#[repr(C)]
+struct Slice {
+    at: *const Step,
+    length: usize,
+}
+
+unsafe extern "C" {
+    fn step_runs_run_array(
+        answer: *mut Answer,
+        listing: *const [Step; 256],
+        count: usize,
+        state: *const State,
+        start: usize,
+        budget: u32,
+    );
+    fn step_lent_run(
+        answer: *mut Answer,
+        listing: *const Slice,
+        state: *const State,
+        start: usize,
+        budget: u32,
+    );
+    fn step_lent_perform_in(answer: *mut Told, state: *mut State, step: *const Step);
+    fn step_lent_fetch(answer: *mut Step, listing: *const Slice, at: usize, other: *const Step);
+    fn step_lent_store(listing: *const Slice, at: usize, step: *const Step);
+}
+
+fn answered(state: &mut State, ask: impl FnOnce(*mut Answer, *const State)) -> Ran {
+    let mut answer = MaybeUninit::uninit();
+    ask(answer.as_mut_ptr(), state);
+    // SAFETY: the port has written all of it.
+    let answer: Answer = unsafe { answer.assume_init() };
+    *state = answer.state;
+    Ran { end: answer.end, next: answer.next, steps: answer.steps, clocks: answer.clocks }
+}
+
+pub fn run_array(listing: &[Step; 256], count: usize, state: &mut State, start: usize, budget: u32) -> Ran {
+    // SAFETY: the pointers are to live values, and the port keeps none of them.
+    answered(state, |answer, state| unsafe {
+        step_runs_run_array(answer, listing, count, state, start, budget)
+    })
+}
+
+pub fn run(listing: &[Step], state: &mut State, start: usize, budget: u32) -> Ran {
+    let slice = Slice { at: listing.as_ptr(), length: listing.len() };
+    // SAFETY: as above.
+    answered(state, |answer, state| unsafe { step_lent_run(answer, &slice, state, start, budget) })
+}
+
+/// The listing once more, written by `store` slot by slot.
+pub fn stored(listing: &[Step]) -> Vec<Step> {
+    let mut copy = vec![listing[0]; listing.len()];
+    for (at, step) in listing.iter().enumerate() {
+        let slice = Slice { at: copy.as_mut_ptr(), length: copy.len() };
+        // SAFETY: as above; the slice is of `copy`, which nothing else holds.
+        unsafe { step_lent_store(&slice, at, step) };
+    }
+    copy
+}
+
+/// A run by single steps on a lent register set, with document 01's tests around them.
+pub fn by_steps(listing: &[Step], state: &mut State, start: usize, budget: u32) -> Ran {
+    let slice = Slice { at: listing.as_ptr(), length: listing.len() };
+    let mut ran = Ran { end: End::Budget, next: start, steps: 0, clocks: 0 };
+    if start > listing.len() {
+        ran.end = End::Refused(Fault::StartPastEnd, start);
+        return ran;
+    }
+    loop {
+        let at = ran.next;
+        if at == listing.len() {
+            ran.end = End::Finished;
+            return ran;
+        }
+        if ran.steps == budget {
+            return ran;
+        }
+        let (mut step, mut told) = (MaybeUninit::uninit(), MaybeUninit::uninit());
+        // SAFETY: as above.
+        let told: Told = unsafe {
+            step_lent_fetch(step.as_mut_ptr(), &slice, at, &listing[0]);
+            step_lent_perform_in(told.as_mut_ptr(), state, step.as_ptr());
+            told.assume_init()
+        };
+        if let Outcome::Refused(fault) = told.outcome {
+            ran.end = End::Refused(fault, at);
+            return ran;
+        }
+        ran.next += 1;
+        ran.steps += 1;
+        ran.clocks += u64::from(told.clocks);
+        if let Outcome::Trapped(class) = told.outcome {
+            ran.end = End::Trapped(class, at);
+            return ran;
+        }
+    }
+}
