@@ -1,0 +1,182 @@
+-- `recipes::reader::read_lines` meets its contract: a turn of the loop reads one line, by `proofs/Lines.antt`.
+-- Assumes nothing.
+use Prim.Native.Nat.{ℕ, _+_, _≤_, _<_}
+use mathlib.Core.Path.{_≡_, refl, sym, _∙_}
+use mathlib.Core.List.{List, [], _∷_, _++_}
+use native.Mathlib.Omega.{arith}
+use lib.ListN.{length, length-append}
+use borrow.Author.Needs.{needs}
+use Rattle.recipes.specs.declared.types.Line.{Line}
+use Rattle.recipes.specs.Reader.{slots, orSlip, linesOf}
+use Rattle.recipes.specs.Text.{before, after}
+use Rattle.recipes.specs.Making.{from}
+use Rattle.recipes.proofs.Lines.{lines-many, lines-cut, lines-next, lines-done, slots-more}
+use Rattle.recipes.proofs.reader.read_lines.Statement.{statement}
+use Rattle.recipes.proofs.reader.read_lines.Tie as tie
+
+-- the lines ls are read and stand in the slots, and reading goes on with what is left of the text
+record SoFar (width : ℕ) (text : List ℕ) (lines : List Line) (count : ℕ) (left : List ℕ) : Type 0 where
+  ls : List Line
+  many : count ≡ length ls
+  within : count ≤ 32
+  short : length left ≤ length text
+  stored : lines ≡ slots ls
+  rest : linesOf width [] (before 10 text) (after 10 text) ≡ linesOf width ls (before 10 left) (after 10 left)
+
+abbrev Inv-loop : tie.InvT-loop
+Inv-loop width text numbers lines₀ count₀ left₀ lines count left = SoFar width text lines count left
+
+abbrev μ-loop : tie.MeasureT-loop
+μ-loop width text numbers lines₀ count₀ left₀ lines count left = length left
+
+-- past the tests on the count
+room : (c : tie.Else1 Inv-loop μ-loop) → length (c .before .before .loop .inv .ls) < 32
+room c =
+    let s = c .before .before .loop .inv in
+    let m = s .many in
+    omega arith
+
+-- a whole line was read
+turn : (c : tie.After-read-line Inv-loop μ-loop)
+    → let f = c .before .before .before in
+    let l = f .before .before .before in
+    let w = l .before .before .args .width in
+    let left = l .loop .left .now in
+    let rest = from (f .first .result + 1) left in
+    linesOf w [] (before 10 (l .before .before .args .text .now)) (after 10 (l .before .before .args .text .now))
+    ≡ orSlip (c .read-line .result) (l .loop .count + 2) (λ x. linesOf w (l .loop .inv .ls ++ (x ∷ [])) (before 10 rest) (after 10 rest))
+turn c =
+    let f = c .before .before .before in
+    let s = f .before .before .before .loop .inv in
+    let r = room (f .before) in
+    rw (s .rest, f .first .ensures .1 .some (c .before .before .if2 .left), lines-next, f .first .ensures .1 .front, ← c .read-line .ensures, ← s .many)
+
+div-numbers : tie.Need-div-numbers Inv-loop μ-loop
+div-numbers c = search needs
+
+loop-holds : tie.Need-loop-holds Inv-loop μ-loop
+loop-holds c = record { ls = []; many = refl; within = search needs; short = search needs; stored = refl; rest = refl }
+
+add-refused : tie.Need-add-refused Inv-loop μ-loop
+add-refused c = search needs
+
+refused-requires : tie.Need-refused-requires Inv-loop μ-loop
+refused-requires c κs = search needs
+
+returns : tie.Need-returns Inv-loop μ-loop
+returns c =
+    let s = c .before .before .before .loop .inv in
+    let e : length (s .ls) ≡ 32 = sym (s .many) ∙ c .before .if1 .taken in
+    rw (s .rest, lines-many _ _ _ (c .before .before .loop-test .taken) e, ← s .many) (c .refused .ensures)
+
+first-requires : tie.Need-first-requires Inv-loop μ-loop
+first-requires c κs = search needs
+
+add-refused-2 : tie.Need-add-refused-2 Inv-loop μ-loop
+add-refused-2 c = search needs
+
+refused-requires-2 : tie.Need-refused-requires-2 Inv-loop μ-loop
+refused-requires-2 c κs = search needs
+
+returns-2 : tie.Need-returns-2 Inv-loop μ-loop
+returns-2 c =
+    let f = c .before .before in
+    let s = f .before .before .before .loop .inv in
+    let h = c .before .if2 .taken in
+    rw (s .rest, f .first .ensures .1 .none h, f .first .ensures .1 .whole h, lines-cut _ _ _ (f .before .before .loop-test .taken) (room (f .before)), ← s .many) (c .refused2 .ensures)
+
+slice-aggregate-read-line : tie.Need-slice-aggregate-read-line Inv-loop μ-loop
+slice-aggregate-read-line c = search needs
+
+read-line-requires : tie.Need-read-line-requires Inv-loop μ-loop
+read-line-requires c κs = search needs
+
+enum-known-refusal : tie.Need-enum-known-refusal Inv-loop μ-loop
+enum-known-refusal c = search needs
+
+add-refused-3 : tie.Need-add-refused-3 Inv-loop μ-loop
+add-refused-3 c = search needs
+
+refused-requires-3 : tie.Need-refused-requires-3 Inv-loop μ-loop
+refused-requires-3 c κs = search needs
+
+returns-3 : tie.Need-returns-3 Inv-loop μ-loop
+returns-3 c = let k = c .before .before in rw (turn (k .before .before), k .refusal .given .1) (c .refused3 .ensures)
+
+enum-known-line : tie.Need-enum-known-line Inv-loop μ-loop
+enum-known-line c = search needs
+
+mul-lines : tie.Need-mul-lines Inv-loop μ-loop
+mul-lines c = search needs
+
+array-set-from-lines : tie.Need-array-set-from-lines Inv-loop μ-loop
+array-set-from-lines c = search needs
+
+add-count : tie.Need-add-count Inv-loop μ-loop
+add-count c = search needs
+
+add-left : tie.Need-add-left Inv-loop μ-loop
+add-left c = search needs
+
+sub-left : tie.Need-sub-left Inv-loop μ-loop
+sub-left c = search needs
+
+part-left-start : tie.Need-part-left-start Inv-loop μ-loop
+part-left-start c = search needs
+
+part-left-end : tie.Need-part-left-end Inv-loop μ-loop
+part-left-end c = search needs
+
+loop-less : tie.Need-loop-less Inv-loop μ-loop
+loop-less c = search needs
+
+loop-again : tie.Need-loop-again Inv-loop μ-loop
+loop-again c =
+    let k = c .before .before in
+    let f = k .before .before .before .before .before in
+    let s = f .before .before .before .loop .inv in
+    let l = k .line .given .0 .0 in
+    record {
+      ls = s .ls ++ (l ∷ []);
+      many = rw length-append (omega arith);
+      within = search needs;
+      short = search needs;
+      stored = rw (s .stored, s .many) (slots-more (s .ls) l (room (f .before)));
+      rest = rw (turn (k .before .before), k .line .given .1);
+    }
+
+returns-4 : tie.Need-returns-4 Inv-loop μ-loop
+returns-4 c = let s = c .before .loop .inv in rw (s .rest, lines-done _ _ _ (c .loop-test .left), s .many, s .stored)
+
+pub read-lines-spec : {M : Type 1} → statement M
+read-lines-spec =
+    tie.close
+    (tie.spec
+    Inv-loop
+    μ-loop
+    div-numbers
+    loop-holds
+    add-refused
+    refused-requires
+    returns
+    first-requires
+    add-refused-2
+    refused-requires-2
+    returns-2
+    slice-aggregate-read-line
+    read-line-requires
+    enum-known-refusal
+    add-refused-3
+    refused-requires-3
+    returns-3
+    enum-known-line
+    mul-lines
+    array-set-from-lines
+    add-count
+    add-left
+    sub-left
+    part-left-start
+    part-left-end
+    loop-less
+    loop-again
+    returns-4)

@@ -1,0 +1,59 @@
+-- `recipes::text::put_bytes` meets its contract: a turn of the loop writes one byte behind the others.
+-- Assumes nothing.
+use Prim.Native.Nat.{ℕ, _-_, _≤_}
+use native.Mathlib.Numerals.{add-one}
+use lib.Seq.{take-suc, take-all}
+use lib.ListN.{length, take}
+use borrow.Author.Needs.{needs}
+use Rattle.recipes.specs.Making.{Wrote}
+use Rattle.recipes.proofs.Writing.{wrote-none, wrote-length, then}
+use Rattle.recipes.proofs.text.put_bytes.Statement.{statement}
+use Rattle.recipes.proofs.text.put_bytes.Tie as tie
+
+abbrev Inv-loop : tie.InvT-loop
+Inv-loop out₀ at text next₀ i₀ out next i = (i ≤ length text) × Wrote out₀ at (take i text) out next
+
+abbrev μ-loop : tie.MeasureT-loop
+μ-loop out₀ at text next₀ i₀ out next i = length text - i
+
+loop-holds : tie.Need-loop-holds Inv-loop μ-loop
+loop-holds c = (search needs, wrote-none _ _)
+
+shared-slice-read-put-byte : tie.Need-shared-slice-read-put-byte Inv-loop μ-loop
+shared-slice-read-put-byte c = search needs
+
+put-byte-requires : tie.Need-put-byte-requires Inv-loop μ-loop
+put-byte-requires c κs = search needs
+
+add-i : tie.Need-add-i Inv-loop μ-loop
+add-i c = search needs
+
+loop-less : tie.Need-loop-less Inv-loop μ-loop
+loop-less c = search needs
+
+loop-again : tie.Need-loop-again Inv-loop μ-loop
+loop-again c =
+    let p = c .before .before in
+    let s = p .before .before .before in
+    (search needs, rw (add-one, take-suc {A = ℕ} _ _ 0 (s .loop-test .taken)) (then (s .before .loop .inv .1) (p .put-byte .ensures)))
+
+same-length : tie.Need-same-length Inv-loop μ-loop
+same-length c = let l = c .before .loop in wrote-length (l .inv .1)
+
+returns : tie.Need-returns Inv-loop μ-loop
+returns c = let l = c .before .loop in rw (take-all (l .i) _ (c .loop-test .left)) at (l .inv .1)
+
+pub put-bytes-spec : {M : Type 1} → statement M
+put-bytes-spec =
+    tie.close
+    (tie.spec
+    Inv-loop
+    μ-loop
+    loop-holds
+    shared-slice-read-put-byte
+    put-byte-requires
+    add-i
+    loop-less
+    loop-again
+    same-length
+    returns)

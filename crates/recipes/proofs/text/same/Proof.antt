@@ -1,0 +1,20 @@
+-- `recipes::text::same` meets its contract: `check` compares the two, and `sameBytes` says the same.
+-- Assumes nothing.
+use Prim.Native.Nat.{ℕ}
+use mathlib.Core.Bool.{Bool, true, false}
+use mathlib.Core.List.{List}
+use mathlib.Core.Path.{_≡_, refl, sym}
+use borrow.Author.Needs.{needs}
+use Rattle.recipes.specs.Text.{sameBytes}
+use Rattle.recipes.proofs.Texts.{same-by}
+use Rattle.recipes.proofs.text.same.Statement.{statement}
+use Rattle.recipes.proofs.text.same.Tie as tie
+
+same-requires : tie.Need-same-requires
+same-requires c κs = search needs
+
+returns : tie.Need-returns
+returns c = same-by _ _ _ (c .same .ensures .0) (c .same .ensures .1)
+
+pub same-spec : {M : Type 1} → statement M
+same-spec = tie.close (tie.spec same-requires returns)

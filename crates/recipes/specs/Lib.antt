@@ -1,0 +1,6 @@
+pub mod Text
+pub mod Recipe
+pub mod Reader
+pub mod Listing
+pub mod Printer
+pub mod Making

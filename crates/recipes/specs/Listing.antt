@@ -1,0 +1,173 @@
+-- The listing that a recipe is translated to: document 01, "Recipes" and "Refusal numbers". Assumes nothing.
+use Prim.Native.Nat.{ℕ, zero, suc, _+_, _*_, _/_}
+use mathlib.Core.Bool.{Bool, true, false, cond}
+use mathlib.Core.List.{List, [], _∷_, _++_}
+use lib.Dec.{leb}
+use lib.ListN.{length, drop, replicate}
+use Rattle.alu.specs.declared.types.Size.the-variants.{Long}
+use Rattle.alu.specs.declared.shift_rotate.ShiftOp.{ShiftOp}
+use Rattle.alu.specs.declared.shift_rotate.ShiftOp.the-variants.{Asr, Lsl, Lsr, Roxl, Roxr}
+use Rattle.step.specs.declared.registers.D.{D}
+use Rattle.step.specs.declared.steps.TwoOp.{TwoOp}
+use Rattle.step.specs.declared.steps.TwoOp.the-variants as TwoOp
+use Rattle.step.specs.declared.steps.OneOp.{OneOp}
+use Rattle.step.specs.declared.steps.OneOp.the-variants as OneOp
+use Rattle.step.specs.declared.steps.Count.the-variants.{Small}
+use Rattle.step.specs.declared.steps.Form.{Form}
+use Rattle.step.specs.declared.steps.Form.the-variants.{Two, One, Shift}
+use Rattle.step.specs.declared.steps.Step.{Step}
+use Rattle.recipes.specs.declared.types.Verb.{Verb}
+use Rattle.recipes.specs.declared.types.Verb.the-variants.{Clear, Copy, Add, Sub, Neg, Not, Halve, Down, Up}
+use Rattle.recipes.specs.declared.types.Line.{Line}
+use Rattle.recipes.specs.declared.types.Recipe.{Recipe}
+use Rattle.recipes.specs.declared.types.Refusal.{Refusal}
+use Rattle.recipes.specs.declared.types.Refusal.the-variants.{Nothing, WidthLine, TooManyLines, NoSpace}
+use Rattle.recipes.specs.declared.types.Translated.{Translated}
+use Rattle.recipes.specs.declared.types.Listing.{Listing}
+use Rattle.recipes.specs.declared.reader.LineRead.{LineRead}
+use Rattle.recipes.specs.declared.reader.LineRead.the-variants.{Read, Slip}
+use Rattle.recipes.specs.Recipe.{target, isWidth, recipeLines, checkedOf}
+
+-- ---- the steps: all are long, from data register p to data register q; a shift is by #1
+
+abbrev pub long : Form → Step
+long form = record { size = Long; form = form }
+
+abbrev pub two : TwoOp → (p q : ℕ) → Step
+two op p q = long (Two op (record { 0 = p }) (record { 0 = q }))
+
+abbrev pub one : OneOp → (q : ℕ) → Step
+one op q = long (One op (record { 0 = q }))
+
+abbrev pub shift : ShiftOp → (q : ℕ) → Step
+shift op q = long (Shift op (Small 1) (record { 0 = q }))
+
+-- a verb's steps at one word: at the first word that it takes, and at each other
+abbrev pub firstOf : Verb → (p q : ℕ) → List Step
+firstOf Clear p q = one OneOp.Clr q ∷ []
+firstOf Copy p q = one OneOp.Clr q ∷ two TwoOp.Add p q ∷ []
+firstOf Add p q = two TwoOp.Add p q ∷ []
+firstOf Sub p q = two TwoOp.Sub p q ∷ []
+firstOf Neg p q = one OneOp.Neg q ∷ []
+firstOf Not p q = one OneOp.Not q ∷ []
+firstOf Halve p q = shift Asr q ∷ []
+firstOf Down p q = shift Lsr q ∷ []
+firstOf Up p q = shift Lsl q ∷ []
+
+abbrev pub nextOf : Verb → (p q : ℕ) → List Step
+nextOf Clear p q = one OneOp.Clr q ∷ []
+nextOf Copy p q = one OneOp.Clr q ∷ two TwoOp.Add p q ∷ []
+nextOf Add p q = two TwoOp.Addx p q ∷ []
+nextOf Sub p q = two TwoOp.Subx p q ∷ []
+nextOf Neg p q = one OneOp.Negx q ∷ []
+nextOf Not p q = one OneOp.Not q ∷ []
+nextOf Halve p q = shift Roxr q ∷ []
+nextOf Down p q = shift Roxr q ∷ []
+nextOf Up p q = shift Roxl q ∷ []
+
+-- lowest register first, but halve and down highest first
+abbrev pub highestFirst : Verb → Bool
+highestFirst Clear = false
+highestFirst Copy = false
+highestFirst Add = false
+highestFirst Sub = false
+highestFirst Neg = false
+highestFirst Not = false
+highestFirst Halve = true
+highestFirst Down = true
+highestFirst Up = false
+
+-- ---- a line: n words from registers p and q on
+
+-- the words after the first one taken
+unfoldable pub upward : Verb → (n p q : ℕ) → List Step
+upward v zero p q = []
+upward v (suc n) p q = nextOf v p q ++ upward v n (suc p) (suc q)
+
+unfoldable pub downward : Verb → (n p q : ℕ) → List Step
+downward v zero p q = []
+downward v (suc n) p q = nextOf v (p + n) (q + n) ++ downward v n p q
+
+-- all of them, lowest first and highest first
+abbrev pub rising : Verb → (n p q : ℕ) → List Step
+rising v zero p q = []
+rising v (suc n) p q = firstOf v p q ++ upward v n (suc p) (suc q)
+
+abbrev pub falling : Verb → (n p q : ℕ) → List Step
+falling v zero p q = []
+falling v (suc n) p q = firstOf v (p + n) (q + n) ++ downward v n p q
+
+-- number k of width w is the registers from D(kw) on
+unfoldable pub lineSteps : (w : ℕ) → Line → List Step
+lineSteps w l =
+    cond (highestFirst (l .verb)) (falling (l .verb) w (l .a * w) (target l * w)) (rising (l .verb) w (l .a * w) (target l * w))
+
+-- ---- a recipe of width w
+
+unfoldable pub listingOf : (w : ℕ) → List Line → List Step
+listingOf w [] = []
+listingOf w (l ∷ ls) = lineSteps w l ++ listingOf w ls
+
+-- document 01's number of steps: w for a line, 2w for a copy (`listing-steps` of proofs/Steps: it is the listing's length)
+abbrev pub stepsAt : Verb → ℕ
+stepsAt Clear = 1
+stepsAt Copy = 2
+stepsAt Add = 1
+stepsAt Sub = 1
+stepsAt Neg = 1
+stepsAt Not = 1
+stepsAt Halve = 1
+stepsAt Down = 1
+stepsAt Up = 1
+
+unfoldable pub stepsOf : (w : ℕ) → List Line → ℕ
+stepsOf w [] = 0
+stepsOf w (l ∷ ls) = stepsAt (l .verb) * w + stepsOf w ls
+
+-- ---- the translator's tests, in document 01's order: 4 (line 1); more than 32 lines, 8 (line 0); 6 and 7 on each line. `refused k line` is what a
+-- refusal answers, and `go` what is answered when all are passed
+
+module _ {R : Type 0} (refused : Refusal → ℕ → R) where
+  abbrev pub orSlip : LineRead → (line : ℕ) → (go : R) → R
+  orSlip (Slip k) line go = refused k line
+  orSlip (Read l) line go = go
+
+  -- the lines in turn, in a recipe of n numbers; the first has this text line
+  unfoldable pub linesPass : (n line : ℕ) → List Line → (go : R) → R
+  linesPass n line [] go = go
+  linesPass n line (l ∷ ls) go = orSlip (checkedOf n l) line (linesPass n (suc line) ls go)
+
+  abbrev pub tested : Recipe → (go : R) → R
+  tested r go =
+      cond (isWidth (r .width))
+      (cond (leb (r .count) 32) (linesPass (8 / r .width) 2 (recipeLines r) go) (refused TooManyLines 0))
+      (refused WidthLine 1)
+
+-- ---- the translation, into a row of slots
+
+-- steps written to the front of a row: the slots past them stay
+abbrev pub over : (new old : List Step) → List Step
+over new old = new ++ drop (length new) old
+
+abbrev pub listed : Refusal → (line count : ℕ) → List Step → Listing
+listed refusal line count steps = record { refusal = refusal; line = line; count = count; steps = steps }
+
+-- a refusal answers 0 steps and leaves the slots; 9 (line 0) where there are too few of them for the steps
+unfoldable pub translateOf : Recipe → (slots : List Step) → Listing
+translateOf r slots =
+    let refused : Refusal → ℕ → Listing = λ k line. listed k line 0 slots in
+    let w = r .width in
+    let ls = recipeLines r in
+    tested refused r
+    (cond (leb (stepsOf w ls) (length slots)) (listed Nothing 0 (stepsOf w ls) (over (listingOf w ls) slots)) (refused NoSpace 0))
+
+-- what the translator says, and the slots that it was lent
+abbrev pub translated : Translated → (slots : List Step) → Listing
+translated t slots = listed (t .refusal) (t .line) (t .count) slots
+
+-- 256 blank slots. A blank slot holds a step on D255, which the machine refuses
+abbrev pub blank : Step
+blank = one OneOp.Clr 255
+
+abbrev pub blanks : List Step
+blanks = replicate 256 blank

@@ -1,0 +1,110 @@
+-- Terms of private functions' contracts: the search for a byte, writing, and the translator's parts. No promise of a public function names anything of this
+-- page, and a reader of the promises can leave it out. Assumes nothing.
+use mathlib.Core.Path.{_≡_}
+use mathlib.Core.Bool.{Bool, true, false, cond}
+use mathlib.Core.List.{List, [], _∷_}
+use Prim.Native.Nat.{ℕ, _+_, _-_, _*_, _/_, _≤_, _<_}
+use lib.Dec.{ltb}
+use lib.ListN.{length, take, drop}
+use lib.Seq.{sets}
+use Rattle.alu.specs.declared.shift_rotate.ShiftOp.the-variants.{Asr, Lsl, Lsr, Roxl, Roxr}
+use Rattle.step.specs.declared.steps.TwoOp.the-variants as TwoOp
+use Rattle.step.specs.declared.steps.OneOp.the-variants as OneOp
+use Rattle.step.specs.declared.steps.Step.{Step}
+use Rattle.recipes.specs.declared.types.Verb.{Verb}
+use Rattle.recipes.specs.declared.types.Verb.the-variants.{Clear, Copy, Add, Sub, Neg, Not, Halve, Down, Up}
+use Rattle.recipes.specs.declared.types.Line.{Line}
+use Rattle.recipes.specs.declared.types.Recipe.{Recipe}
+use Rattle.recipes.specs.declared.types.Refusal.{Refusal}
+use Rattle.recipes.specs.declared.types.Refusal.the-variants.{Nothing, NoSpace}
+use Rattle.recipes.specs.declared.types.Translated.{Translated}
+use Rattle.recipes.specs.declared.types.Listing.{Listing}
+use Rattle.recipes.specs.Text.{before, after, parts, reach}
+use Rattle.recipes.specs.Recipe.{recipeLines, Names, Accepted}
+use Rattle.recipes.specs.Listing.{one, two, shift, firstOf, nextOf, highestFirst, stepsAt, stepsOf, linesPass, tested}
+
+-- ---- the search for a byte
+
+-- the bytes of xs from a on, as `&xs[a..]` has them
+abbrev pub from : ℕ → List ℕ → List ℕ
+from a xs = take (length xs - a) (drop a xs)
+
+-- i is where b stands first in xs, or the length of xs where it doesn't; so it tells the parts
+pub record First (b : ℕ) (xs : List ℕ) (i : ℕ) : Type 0 where
+  pub within : i ≤ length xs
+  pub counted : i ≡ length (take i xs)
+  pub front : before b xs ≡ take i xs
+  pub some : i < length xs → after b xs ≡ parts b (from (i + 1) xs)
+  pub none : length xs ≤ i → after b xs ≡ []
+  pub whole : length xs ≤ i → before b xs ≡ xs
+
+-- ---- writing: what `writing` of Text says, with its two parts by name
+
+pub record Wrote (old : List ℕ) (at : ℕ) (text : List ℕ) (out : List ℕ) (r : ℕ) : Type 0 where
+  pub bytes : out ≡ sets old at text
+  pub next : r ≡ reach at (length text) (length old)
+
+-- ---- one step of a line
+
+-- a verb's own step at a number's first word, and at the others: the last of the word's steps
+abbrev pub firstStep : Verb → (p q : ℕ) → Step
+firstStep Clear p q = one OneOp.Clr q
+firstStep Copy p q = two TwoOp.Add p q
+firstStep Add p q = two TwoOp.Add p q
+firstStep Sub p q = two TwoOp.Sub p q
+firstStep Neg p q = one OneOp.Neg q
+firstStep Not p q = one OneOp.Not q
+firstStep Halve p q = shift Asr q
+firstStep Down p q = shift Lsr q
+firstStep Up p q = shift Lsl q
+
+abbrev pub nextStep : Verb → (p q : ℕ) → Step
+nextStep Clear p q = one OneOp.Clr q
+nextStep Copy p q = two TwoOp.Add p q
+nextStep Add p q = two TwoOp.Addx p q
+nextStep Sub p q = two TwoOp.Subx p q
+nextStep Neg p q = one OneOp.Negx q
+nextStep Not p q = one OneOp.Not q
+nextStep Halve p q = shift Roxr q
+nextStep Down p q = shift Roxr q
+nextStep Up p q = shift Roxl q
+
+abbrev pub wordOf : (first : Bool) → Verb → (p q : ℕ) → List Step
+wordOf true v p q = firstOf v p q
+wordOf false v p q = nextOf v p q
+
+-- which of a number's w registers comes at word i
+abbrev pub offsetOf : Verb → (w i : ℕ) → ℕ
+offsetOf v w i = cond (highestFirst v) (w - 1 - i) i
+
+-- j is a step of the line
+abbrev pub Spot : (w : ℕ) → Line → (j : ℕ) → Type 0
+Spot w l j = (w ≤ 4) × (Names (8 / w) l × (j < stepsAt (l .verb) * w))
+
+-- ---- what the translator says
+
+abbrev pub told : Refusal → (line count : ℕ) → Translated
+told refusal line count = record { refusal = refusal; line = line; count = count }
+
+abbrev pub refused : Refusal → (line : ℕ) → Translated
+refused k line = told k line 0
+
+abbrev pub judgeLines : (w : ℕ) → List Line → Translated
+judgeLines w ls = linesPass refused (8 / w) 2 ls (told Nothing 0 (stepsOf w ls))
+
+-- a recipe, if there is room for any listing
+abbrev pub judgeOf : Recipe → Translated
+judgeOf r = tested refused r (told Nothing 0 (stepsOf (r .width) (recipeLines r)))
+
+-- the first `count` steps of the lines can be laid out
+pub record Ready (w : ℕ) (lines : List Line) (count : ℕ) : Type 0 where
+  pub many : ℕ
+  pub within : count ≤ 256
+  pub width : 0 < count → (0 < w) × (w ≤ 4)
+  pub named : 0 < count → Accepted w (take many lines)
+  pub counted : count ≤ stepsOf w (take many lines)
+  pub held : many ≤ length lines
+
+-- a listing that was made in an array, for a row of so many slots
+abbrev pub settledOf : Listing → (room : ℕ) → Translated
+settledOf l room = cond (ltb room (l .count)) (refused NoSpace 0) (told (l .refusal) (l .line) (l .count))

@@ -1,0 +1,199 @@
+-- What is printed, as lists of bytes: document 01, the end of "Refusal numbers". Assumes nothing.
+use Prim.Native.Nat.{ℕ, suc, _+_}
+use mathlib.Core.Bool.{Bool, true, false, cond}
+use mathlib.Core.List.{List, [], _∷_, _++_}
+use lib.ListN.{length, take, replicate}
+use Rattle.alu.specs.declared.types.Size.{Size}
+use Rattle.alu.specs.declared.types.Size.the-variants.{Byte, Word, Long}
+use Rattle.alu.specs.declared.shift_rotate.ShiftOp.{ShiftOp}
+use Rattle.alu.specs.declared.shift_rotate.ShiftOp.the-variants.{Asl, Asr, Lsl, Lsr, Rol, Ror, Roxl, Roxr}
+use Rattle.alu.specs.declared.bit_manip.BitOp.{BitOp}
+use Rattle.alu.specs.declared.bit_manip.BitOp.the-variants.{Btst, Bset, Bclr, Bchg}
+use Rattle.step.specs.declared.registers.State.{State}
+use Rattle.step.specs.declared.steps.TwoOp.{TwoOp}
+use Rattle.step.specs.declared.steps.TwoOp.the-variants.{Add, Sub, Cmp, Addx, Subx}
+use Rattle.step.specs.declared.steps.AddressOp.{AddressOp}
+use Rattle.step.specs.declared.steps.AddressOp.the-variants.{Adda, Suba, Cmpa}
+use Rattle.step.specs.declared.steps.QuickOp.{QuickOp}
+use Rattle.step.specs.declared.steps.QuickOp.the-variants.{Addq, Subq}
+use Rattle.step.specs.declared.steps.OneOp.{OneOp}
+use Rattle.step.specs.declared.steps.OneOp.the-variants.{Clr, Neg, Negx, Not, Ext}
+use Rattle.step.specs.declared.steps.Register.{Register}
+use Rattle.step.specs.declared.steps.Register.the-variants as Register
+use Rattle.step.specs.declared.steps.Count.{Count}
+use Rattle.step.specs.declared.steps.Count.the-variants as Count
+use Rattle.step.specs.declared.steps.Form.{Form}
+use Rattle.step.specs.declared.steps.Form.the-variants.{Two, Address, Quick, One, Shift, Bit, Chk}
+use Rattle.step.specs.declared.steps.Step.{Step}
+use Rattle.step.specs.Perform.{performOf}
+use Rattle.recipes.specs.declared.types.Recipe.{Recipe}
+use Rattle.recipes.specs.declared.types.Refusal.{Refusal}
+use Rattle.recipes.specs.declared.types.Refusal.the-variants.{Nothing, WidthLine, Syntax, NoSuchNumber, OntoItself, TooManyLines, NoSpace}
+use Rattle.recipes.specs.declared.types.Listing.{Listing}
+use Rattle.recipes.specs.declared.types.Reading.{Reading}
+use Rattle.recipes.specs.Text.{ascii, decimalOf}
+use Rattle.recipes.specs.Recipe.{numberOf}
+use Rattle.recipes.specs.Reader.{readOf}
+use Rattle.recipes.specs.Listing.{translateOf, blanks}
+
+abbrev pub tab : List ℕ
+tab = 9 ∷ []
+
+abbrev pub newline : List ℕ
+newline = 10 ∷ []
+
+-- a number as a field behind others
+abbrev pub fieldOf : ℕ → List ℕ
+fieldOf n = 9 ∷ decimalOf n
+
+-- ---- operations
+
+abbrev pub twoName : TwoOp → List ℕ
+twoName Add = ascii "ADD"
+twoName Sub = ascii "SUB"
+twoName Cmp = ascii "CMP"
+twoName Addx = ascii "ADDX"
+twoName Subx = ascii "SUBX"
+
+abbrev pub addressName : AddressOp → List ℕ
+addressName Adda = ascii "ADDA"
+addressName Suba = ascii "SUBA"
+addressName Cmpa = ascii "CMPA"
+
+abbrev pub quickName : QuickOp → List ℕ
+quickName Addq = ascii "ADDQ"
+quickName Subq = ascii "SUBQ"
+
+abbrev pub oneName : OneOp → List ℕ
+oneName Clr = ascii "CLR"
+oneName Neg = ascii "NEG"
+oneName Negx = ascii "NEGX"
+oneName Not = ascii "NOT"
+oneName Ext = ascii "EXT"
+
+abbrev pub shiftName : ShiftOp → List ℕ
+shiftName Asl = ascii "ASL"
+shiftName Asr = ascii "ASR"
+shiftName Lsl = ascii "LSL"
+shiftName Lsr = ascii "LSR"
+shiftName Rol = ascii "ROL"
+shiftName Ror = ascii "ROR"
+shiftName Roxl = ascii "ROXL"
+shiftName Roxr = ascii "ROXR"
+
+abbrev pub bitName : BitOp → List ℕ
+bitName Btst = ascii "BTST"
+bitName Bset = ascii "BSET"
+bitName Bclr = ascii "BCLR"
+bitName Bchg = ascii "BCHG"
+
+abbrev pub operationText : Form → List ℕ
+operationText (Two op p q) = twoName op
+operationText (Address op p q) = addressName op
+operationText (Quick op k q) = quickName op
+operationText (One op q) = oneName op
+operationText (Shift op k q) = shiftName op
+operationText (Bit op k q) = bitName op
+operationText (Chk p q) = ascii "CHK"
+
+abbrev pub sizeText : Size → List ℕ
+sizeText Byte = ascii "B"
+sizeText Word = ascii "W"
+sizeText Long = ascii "L"
+
+-- ---- operands: D (68) or A (65) and the register's number, # (35) and a small number, or - where there is no source
+
+abbrev pub dataText : ℕ → List ℕ
+dataText r = 68 ∷ decimalOf r
+
+abbrev pub addressText : ℕ → List ℕ
+addressText r = 65 ∷ decimalOf r
+
+abbrev pub smallText : ℕ → List ℕ
+smallText k = 35 ∷ decimalOf k
+
+abbrev pub registerText : Register → List ℕ
+registerText (Register.Data r) = dataText (r .0)
+registerText (Register.Address r) = addressText (r .0)
+
+abbrev pub countText : Count → List ℕ
+countText (Count.Small k) = smallText k
+countText (Count.Data r) = dataText (r .0)
+
+abbrev pub sourceText : Form → List ℕ
+sourceText (Two op p q) = dataText (p .0)
+sourceText (Address op p q) = registerText p
+sourceText (Quick op k q) = smallText k
+sourceText (One op q) = ascii "-"
+sourceText (Shift op k q) = countText k
+sourceText (Bit op k q) = countText k
+sourceText (Chk p q) = dataText (p .0)
+
+abbrev pub destinationText : Form → List ℕ
+destinationText (Two op p q) = dataText (q .0)
+destinationText (Address op p q) = addressText (q .0)
+destinationText (Quick op k q) = registerText q
+destinationText (One op q) = dataText (q .0)
+destinationText (Shift op k q) = dataText (q .0)
+destinationText (Bit op k q) = dataText (q .0)
+destinationText (Chk p q) = dataText (q .0)
+
+-- ---- a listing
+
+-- a step's line: place, operation, size letter, source, destination
+unfoldable pub stepText : (place : ℕ) → Step → List ℕ
+stepText place k =
+    decimalOf place ++ (tab ++ (operationText (k .form) ++ (tab ++ (sizeText (k .size) ++
+    (tab ++ (sourceText (k .form) ++ (tab ++ (destinationText (k .form) ++ newline))))))))
+
+-- the lines of steps that begin at this place
+unfoldable pub stepsText : (place : ℕ) → List Step → List ℕ
+stepsText place [] = []
+stepsText place (k ∷ ks) = stepText place k ++ stepsText (suc place) ks
+
+-- A step's clock figure, as the step machine gives it from cleared registers and flags. (A step of a recipe's listing has this figure in every state:
+-- `figure-same` of proofs/Figures)
+abbrev pub atRest : State
+atRest = record { d = replicate 8 0; a = replicate 8 0; flags = record { x = false; n = false; z = false; v = false; c = false } }
+
+unfoldable pub figureOf : Step → ℕ
+figureOf k = performOf atRest k .clocks
+
+unfoldable pub clocksOf : List Step → ℕ
+clocksOf [] = 0
+clocksOf (k ∷ ks) = figureOf k + clocksOf ks
+
+-- `width`, w and the number of steps; the steps; `clocks` and the sum of their figures
+unfoldable pub listingText : (w : ℕ) → List Step → List ℕ
+listingText w steps =
+    ascii "width" ++ (fieldOf w ++ (fieldOf (length steps) ++ (newline ++
+    (stepsText 0 steps ++ (ascii "clocks" ++ (fieldOf (clocksOf steps) ++ newline))))))
+
+-- ---- a refusal, and answers
+
+-- `refused`, its number and its line
+unfoldable pub refusalText : Refusal → (line : ℕ) → List ℕ
+refusalText k line = ascii "refused" ++ (fieldOf (numberOf k) ++ (fieldOf line ++ newline))
+
+abbrev pub isNothing : Refusal → Bool
+isNothing Nothing = true
+isNothing WidthLine = false
+isNothing Syntax = false
+isNothing NoSuchNumber = false
+isNothing OntoItself = false
+isNothing TooManyLines = false
+isNothing NoSpace = false
+
+-- a recipe's listing in 256 slots, or its refusal
+abbrev pub listingPrinted : (w : ℕ) → Listing → List ℕ
+listingPrinted w l = cond (isNothing (l .refusal)) (listingText w (take (l .count) (l .steps))) (refusalText (l .refusal) (l .line))
+
+unfoldable pub printedOf : Recipe → List ℕ
+printedOf r = listingPrinted (r .width) (translateOf r blanks)
+
+-- what the program prints for a text
+abbrev pub readingPrinted : Reading → List ℕ
+readingPrinted r = cond (isNothing (r .refusal)) (printedOf (r .recipe)) (refusalText (r .refusal) (r .line))
+
+unfoldable pub answerOf : List ℕ → List ℕ
+answerOf text = readingPrinted (readOf text)

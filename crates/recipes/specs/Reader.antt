@@ -1,0 +1,138 @@
+-- What recipe text means: document 01, "Recipes" and "Refusal numbers". A text is any list of bytes. Assumes nothing.
+use Prim.Native.Nat.{ℕ, _+_, _-_, _/_}
+use mathlib.Core.Bool.{Bool, true, false, cond}
+use mathlib.Core.List.{List, [], _∷_, _++_}
+use lib.Dec.{eqb, ltb}
+use lib.ListN.{length, getD, replicate}
+use Rattle.recipes.specs.declared.types.Verb.{Verb}
+use Rattle.recipes.specs.declared.types.Verb.the-variants.{Clear, Copy, Add, Sub, Neg, Not, Halve, Down, Up}
+use Rattle.recipes.specs.declared.types.Line.{Line}
+use Rattle.recipes.specs.declared.types.Recipe.{Recipe}
+use Rattle.recipes.specs.declared.types.Reading.{Reading}
+use Rattle.recipes.specs.declared.types.Refusal.{Refusal}
+use Rattle.recipes.specs.declared.types.Refusal.the-variants.{Nothing, WidthLine, Syntax, TooManyLines}
+use Rattle.recipes.specs.declared.reader.Word.{Word}
+use Rattle.recipes.specs.declared.reader.Word.the-variants.{Known, Unknown}
+use Rattle.recipes.specs.declared.reader.Digit.{Digit}
+use Rattle.recipes.specs.declared.reader.Digit.the-variants.{Is, Bad}
+use Rattle.recipes.specs.declared.reader.LineRead.{LineRead}
+use Rattle.recipes.specs.declared.reader.LineRead.the-variants.{Read, Slip}
+use Rattle.recipes.specs.Text.{ascii, sameBytes, before, after}
+use Rattle.recipes.specs.Recipe.{takesTwo, unused, checkedOf}
+
+-- ---- answers
+
+abbrev pub readingOf : Refusal → (line width count : ℕ) → List Line → Reading
+readingOf refusal line width count lines =
+    record { refusal = refusal; line = line; recipe = record { width = width; count = count; lines = lines } }
+
+-- a recipe of width w with the lines ls; the slots past them are `clear 0`
+abbrev pub slots : List Line → List Line
+slots ls = ls ++ replicate (32 - length ls) unused
+
+abbrev pub accepted : (w : ℕ) → List Line → Reading
+accepted w ls = readingOf Nothing 0 w (length ls) (slots ls)
+
+-- a refusal with its text line: the recipe has width 1 and no lines
+abbrev pub refusedAt : Refusal → (line : ℕ) → Reading
+refusedAt k line = readingOf k line 1 0 (slots [])
+
+-- ---- fields
+
+unfoldable pub verbOf : List ℕ → Word
+verbOf word =
+    cond (sameBytes word (ascii "clear")) (Known Clear)
+    (cond (sameBytes word (ascii "copy")) (Known Copy)
+    (cond (sameBytes word (ascii "add")) (Known Add)
+    (cond (sameBytes word (ascii "sub")) (Known Sub)
+    (cond (sameBytes word (ascii "neg")) (Known Neg)
+    (cond (sameBytes word (ascii "not")) (Known Not)
+    (cond (sameBytes word (ascii "halve")) (Known Halve)
+    (cond (sameBytes word (ascii "down")) (Known Down)
+    (cond (sameBytes word (ascii "up")) (Known Up)
+    Unknown))))))))
+
+-- a byte as a decimal digit, 48 to 57
+abbrev pub byteDigit : ℕ → Digit
+byteDigit d = cond (ltb d 48) Bad (cond (ltb 57 d) Bad (Is (d - 48)))
+
+-- a field as one digit
+unfoldable pub digitOf : List ℕ → Digit
+digitOf field = cond (eqb (length field) 1) (byteDigit (getD field 0 0)) Bad
+
+-- ---- a line, without its byte 10: its first field is the verb, the others are numbers. Any other shape is 5
+
+-- the digit that is the only field
+abbrev pub onlyDigit : List (List ℕ) → Digit
+onlyDigit [] = Bad
+onlyDigit (f ∷ []) = digitOf f
+onlyDigit (f ∷ g ∷ more) = Bad
+
+-- a verb that takes one number, and one that takes two
+abbrev pub withOne : Verb → Digit → LineRead
+withOne v (Is a) = Read (record { verb = v; a = a; b = 0 })
+withOne v Bad = Slip Syntax
+
+abbrev pub withTwo : Verb → Digit → Digit → LineRead
+withTwo v (Is a) (Is b) = Read (record { verb = v; a = a; b = b })
+withTwo v (Is a) Bad = Slip Syntax
+withTwo v Bad d = Slip Syntax
+
+abbrev pub oneOf : Verb → List (List ℕ) → LineRead
+oneOf v fields = withOne v (onlyDigit fields)
+
+abbrev pub twoOf : Verb → List (List ℕ) → LineRead
+twoOf v [] = Slip Syntax
+twoOf v (f ∷ []) = Slip Syntax
+twoOf v (f ∷ g ∷ []) = withTwo v (digitOf f) (digitOf g)
+twoOf v (f ∷ g ∷ h ∷ more) = Slip Syntax
+
+-- a word in the verb's place, with the fields after it
+abbrev pub wordsOf : Word → List (List ℕ) → LineRead
+wordsOf Unknown fields = Slip Syntax
+wordsOf (Known v) fields = cond (takesTwo v) (twoOf v fields) (oneOf v fields)
+
+abbrev pub thenChecked : (n : ℕ) → LineRead → LineRead
+thenChecked n (Slip k) = Slip k
+thenChecked n (Read l) = checkedOf n l
+
+-- a text line in a recipe of n numbers: 5, then 6 and 7
+unfoldable pub lineOf : (n : ℕ) → List ℕ → LineRead
+lineOf n row = thenChecked n (wordsOf (verbOf (before 9 row)) (after 9 row))
+
+-- ---- the lines after the width line. Behind the lines ls the next has text line `length ls + 2`
+
+-- what stands behind the last byte 10: nothing, or a line that lacks its byte 10
+abbrev pub endOf : (w : ℕ) → List Line → List ℕ → Reading
+endOf w ls [] = accepted w ls
+endOf w ls (x ∷ xs) = cond (eqb (length ls) 32) (refusedAt TooManyLines (length ls + 2)) (refusedAt Syntax (length ls + 2))
+
+abbrev pub orSlip : LineRead → (line : ℕ) → (Line → Reading) → Reading
+orSlip (Slip k) line go = refusedAt k line
+orSlip (Read l) line go = go l
+
+-- the text's parts at byte 10, row and then more, behind the lines ls: on each line in turn 8, then 5, 6, 7
+unfoldable pub linesOf : (w : ℕ) → List Line → (row : List ℕ) → (more : List (List ℕ)) → Reading
+linesOf w ls row [] = endOf w ls row
+linesOf w ls row (next ∷ more) =
+    cond (eqb (length ls) 32) (refusedAt TooManyLines (length ls + 2))
+    (orSlip (lineOf (8 / w) row) (length ls + 2) (λ l. linesOf w (ls ++ (l ∷ [])) next more))
+
+-- ---- the width line
+
+-- the width that a digit gives, and 0 where it gives none
+abbrev pub widthDigit : Digit → ℕ
+widthDigit (Is d) = cond (eqb d 1) 1 (cond (eqb d 2) 2 (cond (eqb d 4) 4 0))
+widthDigit Bad = 0
+
+unfoldable pub widthLine : List ℕ → ℕ
+widthLine row = cond (sameBytes (before 9 row) (ascii "width")) (widthDigit (onlyDigit (after 9 row))) 0
+
+-- the first line, and the parts after it
+abbrev pub firstOf : List ℕ → List (List ℕ) → Reading
+firstOf row [] = refusedAt WidthLine 1
+firstOf row (next ∷ more) = cond (eqb (widthLine row) 0) (refusedAt WidthLine 1) (linesOf (widthLine row) [] next more)
+
+-- a recipe text
+unfoldable pub readOf : List ℕ → Reading
+readOf text = firstOf (before 10 text) (after 10 text)

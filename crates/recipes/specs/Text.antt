@@ -1,0 +1,65 @@
+-- Texts as lists of bytes: how a byte parts a text, decimal numbers, and what it is to write a text into a lent slice. Assumes nothing.
+use Prim.Native.Nat.{ℕ, zero, suc, _+_, _/_, _%_, min, max}
+use Prim.Native.Char.{code}
+use Prim.Native.String.{String, [] as none, _∷_ as _then_}
+use mathlib.Core.Bool.{Bool, true, false, cond, _&&_}
+use mathlib.Core.List.{List, [], _∷_, _++_}
+use lib.Dec.{eqb, ltb}
+use lib.ListN.{length}
+use lib.Seq.{sets}
+
+-- the bytes of an ASCII text
+abbrev pub ascii : String → List ℕ
+ascii none = []
+ascii (c then s) = code c ∷ ascii s
+
+unfoldable pub sameBytes : List ℕ → List ℕ → Bool
+sameBytes [] [] = true
+sameBytes [] (y ∷ ys) = false
+sameBytes (x ∷ xs) [] = false
+sameBytes (x ∷ xs) (y ∷ ys) = eqb x y && sameBytes xs ys
+
+-- ---- parts
+
+-- A byte b parts a text: what stands before the first b, and the parts after it, one for each b.
+unfoldable pub before : (b : ℕ) → List ℕ → List ℕ
+before b [] = []
+before b (x ∷ xs) = cond (eqb x b) [] (x ∷ before b xs)
+
+unfoldable pub after : (b : ℕ) → List ℕ → List (List ℕ)
+after b [] = []
+after b (x ∷ xs) = cond (eqb x b) (before b xs ∷ after b xs) (after b xs)
+
+-- all of them: `parts 10` are a text's lines, and what stands behind the last byte 10; `parts 9` are a line's fields
+abbrev pub parts : (b : ℕ) → List ℕ → List (List ℕ)
+parts b xs = before b xs ∷ after b xs
+
+-- ---- numbers
+
+-- the last digits of n in decimal, f of them at most
+unfoldable pub decimalIn : (f n : ℕ) → List ℕ
+decimalIn zero n = []
+decimalIn (suc f) n = cond (ltb n 10) ((48 + n) ∷ []) (decimalIn f (n / 10) ++ ((48 + n % 10) ∷ []))
+
+-- a number below 10^20 in decimal, without leading zeros
+abbrev pub decimalOf : ℕ → List ℕ
+decimalOf n = decimalIn 20 n
+
+-- ---- writing
+
+-- what a writer leaves: the slice, and the place after what it wrote
+pub record Written : Type 0 where
+  pub bytes : List ℕ
+  pub next : ℕ
+
+abbrev pub written : List ℕ → ℕ → Written
+written bytes next = record { bytes = bytes; next = next }
+
+-- the place after n bytes at `at`, where there is so much room
+abbrev pub reach : (at n room : ℕ) → ℕ
+reach at n room = max at (min (at + n) room)
+
+-- A text is stored from `at` on, as far as there is room, and the slice is else as it was. (`sets` stores element by element, and a store past the
+-- end changes nothing.)
+unfoldable pub writing : (old : List ℕ) → (at : ℕ) → (text : List ℕ) → Written
+writing old at text = written (sets old at text) (reach at (length text) (length old))

@@ -1,0 +1,280 @@
+// The reader of recipe text. A text is any bytes; its lines end at byte 10, and a line's fields are parted by byte 9.
+ghost use mathlib.Core.Path.{_≡_};
+ghost use Prim.Native.Nat.{_<_};
+ghost use mathlib.Core.Bool.{cond};
+ghost use mathlib.Core.List.{[]};
+ghost use lib.ListN.{replicate};
+ghost use Rattle.recipes.specs.declared.reader.Word.the-variants.{Known};
+ghost use Rattle.recipes.specs.Text.{before, after, parts, sameBytes};
+ghost use Rattle.recipes.specs.Recipe.{unused, checkedOf};
+ghost use Rattle.recipes.specs.Reader.{verbOf, digitOf, onlyDigit, oneOf, twoOf, wordsOf, lineOf, readingOf, refusedAt, linesOf, widthDigit, widthLine, readOf};
+use super::text::NEWLINE;
+use super::text::TAB;
+use super::text::first;
+use super::text::same;
+use super::types::Line;
+use super::types::Reading;
+use super::types::Recipe;
+use super::types::Refusal;
+use super::types::Verb;
+use super::types::is_copy;
+use super::types::takes_two;
+
+// What a word in the verb's place is.
+pub(crate) enum Word {
+    Known(Verb),
+    Unknown,
+}
+
+// What a field in a number's place is.
+pub(crate) enum Digit {
+    Is(u8),
+    Bad,
+}
+
+// What a line of a recipe is: a line, or its slip.
+pub(crate) enum LineRead {
+    Read(Line),
+    Slip(Refusal),
+}
+
+// `verb` where the word is its name, and otherwise what was found among the other verbs.
+fn or_verb(word: &[u8], name: &[u8], verb: Verb, other: Word) -> Word
+    ensures { λ r. ⌜ r ≡ cond (sameBytes (now (word .entry)) (now (name .entry))) (Known verb) other ⌝ }
+{
+    if same(word, name) {
+        return Word::Known(verb);
+    }
+    other
+}
+
+fn verb_of(word: &[u8]) -> Word
+    ensures { λ r. ⌜ r ≡ verbOf (now (word .entry)) ⌝ }
+{
+    let found = Word::Unknown;
+    let found = or_verb(word, b"up", Verb::Up, found);
+    let found = or_verb(word, b"down", Verb::Down, found);
+    let found = or_verb(word, b"halve", Verb::Halve, found);
+    let found = or_verb(word, b"not", Verb::Not, found);
+    let found = or_verb(word, b"neg", Verb::Neg, found);
+    let found = or_verb(word, b"sub", Verb::Sub, found);
+    let found = or_verb(word, b"add", Verb::Add, found);
+    let found = or_verb(word, b"copy", Verb::Copy, found);
+    or_verb(word, b"clear", Verb::Clear, found)
+}
+
+fn digit_of(field: &[u8]) -> Digit
+    ensures { λ r. ⌜ r ≡ digitOf (now (field .entry)) ⌝ }
+{
+    if field.len() != 1 {
+        return Digit::Bad;
+    }
+    let d = field[0];
+    if d < b'0' {
+        return Digit::Bad;
+    }
+    if b'9' < d {
+        return Digit::Bad;
+    }
+    Digit::Is(d - b'0')
+}
+
+// The digit that is the only field.
+fn only_digit(fields: &[u8]) -> Digit
+    ensures { λ r. ⌜ r ≡ onlyDigit (parts 9 (now (fields .entry))) ⌝ }
+{
+    if first(fields, TAB) < fields.len() {
+        return Digit::Bad;
+    }
+    digit_of(fields)
+}
+
+// The line of a verb that takes one number, from the fields after the verb.
+fn read_one(verb: Verb, fields: &[u8]) -> LineRead
+    ensures { λ r. ⌜ r ≡ oneOf verb (parts 9 (now (fields .entry))) ⌝ }
+{
+    match only_digit(fields) {
+        Digit::Is(a) => LineRead::Read(Line { verb, a, b: 0 }),
+        Digit::Bad => LineRead::Slip(Refusal::Syntax),
+    }
+}
+
+// The line of a verb that takes two.
+fn read_two(verb: Verb, fields: &[u8]) -> LineRead
+    ensures { λ r. ⌜ r ≡ twoOf verb (parts 9 (now (fields .entry))) ⌝ }
+{
+    let tab = first(fields, TAB);
+    if fields.len() <= tab {
+        return LineRead::Slip(Refusal::Syntax);
+    }
+    let second = &fields[tab + 1..];
+    if first(second, TAB) < second.len() {
+        return LineRead::Slip(Refusal::Syntax);
+    }
+    let Digit::Is(a) = digit_of(&fields[..tab]) else {
+        return LineRead::Slip(Refusal::Syntax);
+    };
+    let Digit::Is(b) = digit_of(second) else {
+        return LineRead::Slip(Refusal::Syntax);
+    };
+    LineRead::Read(Line { verb, a, b })
+}
+
+// The verb and the numbers of a line.
+fn read_fields(row: &[u8]) -> LineRead
+    ensures { λ r. ⌜ r ≡ wordsOf (verbOf (before 9 (now (row .entry)))) (after 9 (now (row .entry))) ⌝ }
+{
+    let tab = first(row, TAB);
+    let Word::Known(verb) = verb_of(&row[..tab]) else {
+        return LineRead::Slip(Refusal::Syntax);
+    };
+    if row.len() <= tab {
+        return LineRead::Slip(Refusal::Syntax);
+    }
+    let fields = &row[tab + 1..];
+    if takes_two(verb) {
+        read_two(verb, fields)
+    } else {
+        read_one(verb, fields)
+    }
+}
+
+// A line as it may stand in a recipe of so many numbers, or why it may not. The translator asks it too.
+pub(crate) fn check_line(numbers: u8, line: Line) -> LineRead
+    ensures { λ r. ⌜ r ≡ checkedOf numbers line ⌝ }
+{
+    let verb = line.verb;
+    if numbers <= line.a {
+        return LineRead::Slip(Refusal::NoSuchNumber);
+    }
+    if takes_two(verb) {
+        if numbers <= line.b {
+            return LineRead::Slip(Refusal::NoSuchNumber);
+        }
+        if is_copy(verb) {
+            if line.a == line.b {
+                return LineRead::Slip(Refusal::OntoItself);
+            }
+        }
+    }
+    LineRead::Read(line)
+}
+
+fn read_line(numbers: u8, row: &[u8]) -> LineRead
+    ensures { λ r. ⌜ r ≡ lineOf numbers (now (row .entry)) ⌝ }
+{
+    match read_fields(row) {
+        LineRead::Read(line) => check_line(numbers, line),
+        LineRead::Slip(refusal) => LineRead::Slip(refusal),
+    }
+}
+
+// The width that a digit gives, or 0.
+fn width_digit(digit: Digit) -> u8
+    ensures { λ r. ⌜ r ≡ widthDigit digit ⌝ }
+{
+    match digit {
+        Digit::Is(d) => match d {
+            1 => 1,
+            2 => 2,
+            4 => 4,
+            _ => 0,
+        },
+        Digit::Bad => 0,
+    }
+}
+
+// The width that a first line gives, or 0.
+fn read_width(row: &[u8]) -> u8
+    ensures { λ r. ⌜ r ≡ widthLine (now (row .entry)) ⌝ }
+{
+    let tab = first(row, TAB);
+    if !same(&row[..tab], b"width") {
+        return 0;
+    }
+    if row.len() <= tab {
+        return 0;
+    }
+    width_digit(only_digit(&row[tab + 1..]))
+}
+
+// Lines that don't count.
+fn no_lines() -> [Line; 32]
+    ensures { λ r. ⌜ r ≡ replicate 32 unused ⌝ }
+{
+    let unused = Line {
+        verb: Verb::Clear,
+        a: 0,
+        b: 0,
+    };
+    [unused; 32]
+}
+
+fn reading(refusal: Refusal, line: usize, width: u8, count: usize, lines: [Line; 32]) -> Reading
+    ensures { λ r. ⌜ r ≡ readingOf refusal line width count lines ⌝ }
+{
+    let recipe = Recipe {
+        width,
+        count,
+        lines,
+    };
+    Reading {
+        refusal,
+        line,
+        recipe,
+    }
+}
+
+// Every refusal of the reader is answered here.
+fn refused(refusal: Refusal, line: usize) -> Reading
+    ensures { λ r. ⌜ r ≡ refusedAt refusal line ⌝ }
+{
+    let lines = no_lines();
+    reading(refusal, line, 1, 0, lines)
+}
+
+// The lines after the width line. Line `count` of a recipe, from 0, is text line `count` + 2.
+fn read_lines(width: u8, text: &[u8]) -> Reading
+    requires { ⌜ 0 < width ⌝ }
+    ensures { λ r. ⌜ r ≡ linesOf width [] (before 10 (now (text .entry))) (after 10 (now (text .entry))) ⌝ }
+{
+    let numbers = 8 / width;
+    let mut lines = no_lines();
+    let mut count: usize = 0;
+    let mut left = text;
+    while 0 < left.len() {
+        if count == 32 {
+            return refused(Refusal::TooManyLines, count + 2);
+        }
+        let end = first(left, NEWLINE);
+        if left.len() <= end {
+            return refused(Refusal::Syntax, count + 2);
+        }
+        match read_line(numbers, &left[..end]) {
+            LineRead::Slip(refusal) => {
+                return refused(refusal, count + 2);
+            }
+            LineRead::Read(line) => {
+                lines[count] = line;
+            }
+        }
+        count += 1;
+        left = &left[end + 1..];
+    }
+    reading(Refusal::Nothing, 0, width, count, lines)
+}
+
+// Reads a recipe text: the recipe, or the first refusal with its text line.
+pub fn read(text: &[u8]) -> Reading
+    ensures { λ r. ⌜ r ≡ readOf (now (text .entry)) ⌝ }
+{
+    let end = first(text, NEWLINE);
+    if text.len() <= end {
+        return refused(Refusal::WidthLine, 1);
+    }
+    let width = read_width(&text[..end]);
+    if width == 0 {
+        return refused(Refusal::WidthLine, 1);
+    }
+    read_lines(width, &text[end + 1..])
+}

@@ -1,0 +1,112 @@
+// What a recipe is, why one is refused, and what its reader and its translator answer.
+ghost use mathlib.Core.Path.{_≡_};
+ghost use Rattle.recipes.specs.Recipe.{numberOf, takesTwo, isCopy};
+use step::steps::Step;
+
+pub enum Verb {
+    Clear,
+    Copy,
+    Add,
+    Sub,
+    Neg,
+    Not,
+    Halve,
+    Down,
+    Up,
+}
+
+// A recipe line. A verb that takes one number has it in `a`, and `b` doesn't count; the reader makes it 0.
+pub struct Line {
+    pub verb: Verb,
+    pub a: u8,
+    pub b: u8,
+}
+
+// The first `count` of `lines` are the recipe's; the reader makes the others `clear 0`.
+pub struct Recipe {
+    pub width: u8,
+    pub count: usize,
+    pub lines: [Line; 32],
+}
+
+// Why a text or a recipe is refused: document 01's numbers 4 to 9; `Nothing` is 0.
+pub enum Refusal {
+    Nothing,
+    WidthLine,
+    Syntax,
+    NoSuchNumber,
+    OntoItself,
+    TooManyLines,
+    NoSpace,
+}
+
+// What the reader answers. `line` is the refused text line, counted from 1, and 0 where nothing is refused; a refused
+// text has a recipe of width 1 and no lines.
+pub struct Reading {
+    pub refusal: Refusal,
+    pub line: usize,
+    pub recipe: Recipe,
+}
+
+// What the translator says: its refusal, the text line of that, and the number of steps, 0 where it refuses. The
+// lines of a recipe made by hand count as the text lines 2 and on; a refusal that is of no line has 0.
+pub struct Translated {
+    pub refusal: Refusal,
+    pub line: usize,
+    pub count: usize,
+}
+
+// The same with the listing by value: its first `count` slots. The others are blank.
+pub struct Listing {
+    pub refusal: Refusal,
+    pub line: usize,
+    pub count: usize,
+    pub steps: [Step; 256],
+}
+
+// The number of a refusal.
+pub fn number(refusal: Refusal) -> u8
+    ensures { λ r. ⌜ r ≡ numberOf refusal ⌝ }
+{
+    match refusal {
+        Refusal::Nothing => 0,
+        Refusal::WidthLine => 4,
+        Refusal::Syntax => 5,
+        Refusal::NoSuchNumber => 6,
+        Refusal::OntoItself => 7,
+        Refusal::TooManyLines => 8,
+        Refusal::NoSpace => 9,
+    }
+}
+
+pub(crate) fn takes_two(verb: Verb) -> bool
+    ensures { λ r. ⌜ r ≡ takesTwo verb ⌝ }
+{
+    match verb {
+        Verb::Clear => false,
+        Verb::Copy => true,
+        Verb::Add => true,
+        Verb::Sub => true,
+        Verb::Neg => false,
+        Verb::Not => false,
+        Verb::Halve => false,
+        Verb::Down => false,
+        Verb::Up => false,
+    }
+}
+
+pub(crate) fn is_copy(verb: Verb) -> bool
+    ensures { λ r. ⌜ r ≡ isCopy verb ⌝ }
+{
+    match verb {
+        Verb::Clear => false,
+        Verb::Copy => true,
+        Verb::Add => false,
+        Verb::Sub => false,
+        Verb::Neg => false,
+        Verb::Not => false,
+        Verb::Halve => false,
+        Verb::Down => false,
+        Verb::Up => false,
+    }
+}
