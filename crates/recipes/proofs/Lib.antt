@@ -1,3 +1,10 @@
 pub mod Texts
 pub mod Writing
+pub mod Steps
+pub mod Accepting
+mod Settling
 mod Lines
+mod Words
+mod Judging
+mod Laying
+mod Printing

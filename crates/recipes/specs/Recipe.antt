@@ -53,7 +53,7 @@ target l = cond (takesTwo (l .verb)) (l .b) (l .a)
 
 -- a width, and the lines of a recipe that count
 abbrev pub isWidth : ℕ → Bool
-isWidth w = eqb w 1 || (eqb w 2 || eqb w 4)
+isWidth w = (eqb w 1 || eqb w 2) || eqb w 4
 
 abbrev pub recipeLines : Recipe → List Line
 recipeLines r = take (r .count) (r .lines)

@@ -143,11 +143,7 @@ fn target(line: Line) -> u8
     ensures { λ r. ⌜ r ≡ target line ⌝ }
 {
     let verb = line.verb;
-    if takes_two(verb) {
-        line.b
-    } else {
-        line.a
-    }
+    if takes_two(verb) { line.b } else { line.a }
 }
 
 // Step j of a line stands at this word of the number, and is this part of the word's steps.
@@ -213,15 +209,14 @@ fn judge_lines(width: u8, count: usize, lines: [Line; 32]) -> Translated
     let mut k: usize = 0;
     while k < count {
         let line = lines[k];
+        let verb = line.verb;
         match check_line(numbers, line) {
             LineRead::Slip(refusal) => {
                 return refused(refusal, k + 2);
             }
-            LineRead::Read(good) => {
-                let verb = good.verb;
-                steps += steps_of(width, verb) as usize;
-            }
+            LineRead::Read(_) => {}
         }
+        steps += steps_of(width, verb) as usize;
         k += 1;
     }
     Translated {

@@ -40,10 +40,10 @@ room c =
 turn : (c : tie.After-read-line Inv-loop μ-loop)
     → let f = c .before .before .before in
     let l = f .before .before .before in
-    let w = l .before .before .args .width in
+    let w = l .before .before .before .args .width in
     let left = l .loop .left .now in
     let rest = from (f .first .result + 1) left in
-    linesOf w [] (before 10 (l .before .before .args .text .now)) (after 10 (l .before .before .args .text .now))
+    linesOf w [] (before 10 (l .before .before .before .args .text .now)) (after 10 (l .before .before .before .args .text .now))
     ≡ orSlip (c .read-line .result) (l .loop .count + 2) (λ x. linesOf w (l .loop .inv .ls ++ (x ∷ [])) (before 10 rest) (after 10 rest))
 turn c =
     let f = c .before .before .before in
@@ -54,8 +54,11 @@ turn c =
 div-numbers : tie.Need-div-numbers Inv-loop μ-loop
 div-numbers c = search needs
 
+no-lines-requires : tie.Need-no-lines-requires Inv-loop μ-loop
+no-lines-requires c κs = search needs
+
 loop-holds : tie.Need-loop-holds Inv-loop μ-loop
-loop-holds c = record { ls = []; many = refl; within = search needs; short = search needs; stored = refl; rest = refl }
+loop-holds c = record { ls = []; many = refl; within = search needs; short = search needs; stored = c .no-lines .ensures; rest = refl }
 
 add-refused : tie.Need-add-refused Inv-loop μ-loop
 add-refused c = search needs
@@ -145,8 +148,13 @@ loop-again c =
       rest = rw (turn (k .before .before), k .line .given .1);
     }
 
+reading-requires : tie.Need-reading-requires Inv-loop μ-loop
+reading-requires c κs = search needs
+
 returns-4 : tie.Need-returns-4 Inv-loop μ-loop
-returns-4 c = let s = c .before .loop .inv in rw (s .rest, lines-done _ _ _ (c .loop-test .left), s .many, s .stored)
+returns-4 c =
+    let s = c .before .before .loop .inv in
+    rw (s .rest, lines-done _ _ _ (c .before .loop-test .left)) (rw (s .many, s .stored) at (c .reading .ensures))
 
 pub read-lines-spec : {M : Type 1} → statement M
 read-lines-spec =
@@ -155,6 +163,7 @@ read-lines-spec =
     Inv-loop
     μ-loop
     div-numbers
+    no-lines-requires
     loop-holds
     add-refused
     refused-requires
@@ -179,4 +188,5 @@ read-lines-spec =
     part-left-end
     loop-less
     loop-again
+    reading-requires
     returns-4)

@@ -1,0 +1,103 @@
+-- Laws of the tests of lines and recipes. Assumes nothing.
+--     checked-names   a line that is read past 6 and 7 names numbers, and copies none onto itself
+--     width-is        a width is at least 1 and at most 4
+--     tests-agree     two answers that go through the same tests agree, if they agree where a test refuses, and where a recipe is accepted
+use Prim.Native.Nat.{ℕ, zero, suc, _+_, _/_, _≤_, _<_}
+use mathlib.Core.Bool.{Bool, true, false, cond, _||_, false≢true}
+use mathlib.Core.List.{List, [], _∷_}
+use mathlib.Core.Path.{_≡_, refl, sym, ap, _∙_}
+use native.Mathlib.Omega.{arith}
+use borrow.Author.Tests.{leb-true, leb-false, eqb-true, eqb-false}
+use lib.Dec.{eqb, leb}
+use lib.ListN.{take}
+use Rattle.recipes.specs.declared.types.Verb.{Verb}
+use Rattle.recipes.specs.declared.types.Verb.the-variants.{Copy}
+use Rattle.recipes.specs.declared.types.Line.{Line}
+use Rattle.recipes.specs.declared.types.Recipe.{Recipe}
+use Rattle.recipes.specs.declared.types.Refusal.{Refusal}
+use Rattle.recipes.specs.declared.types.Refusal.the-variants.{NoSuchNumber, OntoItself, TooManyLines, WidthLine}
+use Rattle.recipes.specs.declared.reader.LineRead.{LineRead}
+use Rattle.recipes.specs.declared.reader.LineRead.the-variants.{Read, Slip}
+use Rattle.recipes.specs.Recipe.{takesTwo, isCopy, target, isWidth, recipeLines, copyChecked, pairChecked, checkedOf, Names, Accepted}
+use Rattle.recipes.specs.Listing.{orSlip, linesPass, tested}
+
+-- ---- lines
+
+abbrev isRead : LineRead → Bool
+isRead (Read l) = true
+isRead (Slip k) = false
+
+no-read : {k : Refusal} {m : Line} → Slip k ≡ Read m → ⊥
+no-read e = false≢true (ap isRead e)
+
+pub checked-names : (n : ℕ) (l m : Line) → checkedOf n l ≡ Read m → Names n l
+unfolding checkedOf
+checked-names n l m e = first (leb n (l .a)) refl (takesTwo (l .verb)) refl e
+  where
+    copies : (t : Bool) → isCopy (l .verb) ≡ t → (u : Bool) → eqb (l .a) (l .b) ≡ u → cond t (cond u (Slip OntoItself) (Read l)) (Read l) ≡ Read m
+        → l .verb ≡ Copy → l .a ≡ l .b → ⊥
+    copies true c true s e is same = no-read e
+    copies true c false s e is same = eqb-false (l .a) (l .b) s same
+    copies false c u s e is same = false≢true (sym c ∙ ap isCopy is)
+
+    second : (t : Bool) → leb n (l .b) ≡ t → l .a < n → takesTwo (l .verb) ≡ true
+        → cond t (Slip NoSuchNumber) (cond (isCopy (l .verb)) (copyChecked l) (Read l)) ≡ Read m → Names n l
+    second true h a two e = absurd (no-read e)
+    second false h a two e =
+        record {
+          source = a;
+          goal = rw two (leb-false n (l .b) h);
+          apart = rw two (copies (isCopy (l .verb)) refl (eqb (l .a) (l .b)) refl e);
+        }
+
+    first : (t : Bool) → leb n (l .a) ≡ t → (u : Bool) → takesTwo (l .verb) ≡ u
+        → cond t (Slip NoSuchNumber) (cond u (pairChecked n l) (Read l)) ≡ Read m → Names n l
+    first true h u two e = absurd (no-read e)
+    first false h true two e = second (leb n (l .b)) refl (leb-false n (l .a) h) two e
+    first false h false two e =
+        record {
+          source = leb-false n (l .a) h;
+          goal = rw two (leb-false n (l .a) h);
+          apart = λ is same. false≢true (sym two ∙ ap takesTwo is);
+        }
+
+-- ---- recipes
+
+pub width-is : (w : ℕ) → isWidth w ≡ true → (0 < w) × (w ≤ 4)
+width-is w e = go (eqb w 1) refl (eqb w 2) refl (eqb w 4) refl e
+  where
+    at : (k : ℕ) → 0 < k → k ≤ 4 → eqb w k ≡ true → (0 < w) × (w ≤ 4)
+    at k l m h = let is = eqb-true w k h in (omega arith, omega arith)
+
+    go : (s : Bool) → eqb w 1 ≡ s → (t : Bool) → eqb w 2 ≡ t → (u : Bool) → eqb w 4 ≡ u → (s || t) || u ≡ true → (0 < w) × (w ≤ 4)
+    go true h t i u j e = at 1 (omega arith) (omega arith) h
+    go false h true i u j e = at 2 (omega arith) (omega arith) i
+    go false h false i true j e = at 4 (omega arith) (omega arith) j
+    go false h false i false j e = absurd (false≢true e)
+
+module _ {R S : Type 0} (P : R → S → Type 0) (refuse : Refusal → ℕ → R) (reject : Refusal → ℕ → S) (alike : (k : Refusal) (line : ℕ) → P (refuse k line) (reject k line)) where
+  lines-agree : (w line : ℕ) (ls : List Line) (go : R) (gone : S) → (Accepted w ls → P go gone) → P (linesPass refuse (8 / w) line ls go) (linesPass reject (8 / w) line ls gone)
+  unfolding linesPass
+  lines-agree w line [] go gone h = h tt
+  lines-agree w line (l ∷ ls) go gone h =
+      by (checkedOf (8 / w) l) (λ m e. lines-agree w (suc line) ls go gone (λ more. h (checked-names (8 / w) l m e, more)))
+    where
+      by : (c : LineRead) → ((m : Line) → c ≡ Read m → P (linesPass refuse (8 / w) (suc line) ls go) (linesPass reject (8 / w) (suc line) ls gone))
+          → P (orSlip refuse c line (linesPass refuse (8 / w) (suc line) ls go)) (orSlip reject c line (linesPass reject (8 / w) (suc line) ls gone))
+      by (Slip k) more = alike k line
+      by (Read m) more = more m refl
+
+  pub tests-agree : (r : Recipe) (go : R) (gone : S)
+      → ((0 < r .width) × (r .width ≤ 4) → r .count ≤ 32 → Accepted (r .width) (recipeLines r) → P go gone) → P (tested refuse r go) (tested reject r gone)
+  tests-agree r go gone h = width (isWidth (r .width)) refl
+    where
+      few : (t : Bool) → leb (r .count) 32 ≡ t → (0 < r .width) × (r .width ≤ 4)
+          → P (cond t (linesPass refuse (8 / r .width) 2 (recipeLines r) go) (refuse TooManyLines 0)) (cond t (linesPass reject (8 / r .width) 2 (recipeLines r) gone) (reject TooManyLines 0))
+      few true e w = lines-agree (r .width) 2 (recipeLines r) go gone (h w (leb-true (r .count) 32 e))
+      few false e w = alike TooManyLines 0
+
+      width : (t : Bool) → isWidth (r .width) ≡ t
+          → P (cond t (cond (leb (r .count) 32) (linesPass refuse (8 / r .width) 2 (recipeLines r) go) (refuse TooManyLines 0)) (refuse WidthLine 1))
+          (cond t (cond (leb (r .count) 32) (linesPass reject (8 / r .width) 2 (recipeLines r) gone) (reject TooManyLines 0)) (reject WidthLine 1))
+      width true e = few (leb (r .count) 32) refl (width-is (r .width) e)
+      width false e = alike WidthLine 1

@@ -1,0 +1,50 @@
+-- Laws of the printed listing, one for each turn of a printer's loop. Assumes nothing.
+use Prim.Native.Nat.{ℕ, zero, suc, _+_, _≤_, _<_}
+use mathlib.Core.Bool.{Bool, true, false, cond}
+use mathlib.Core.List.{List, [], _∷_, _++_, append-nil, append-assoc}
+use mathlib.Core.Path.{_≡_, refl, sym, ap, _∙_}
+use native.Mathlib.Decide.{decLe}
+use native.Mathlib.Numerals.{add-one}
+use native.Mathlib.Omega.{arith}
+use borrow.Author.Tests.{lt-ltb, le-ltb}
+use lib.Dec.{ltb}
+use lib.ListN.{length, take, getD}
+use lib.Seq.{take-suc, take-all, length-take-le}
+use Rattle.alu.specs.declared.types.Size.the-variants.{Byte}
+use Rattle.step.specs.declared.steps.TwoOp.the-variants.{Add}
+use Rattle.step.specs.declared.steps.Form.the-variants.{Two}
+use Rattle.step.specs.declared.steps.Step.{Step}
+use Rattle.recipes.specs.Printer.{stepText, stepsText, figureOf, clocksOf}
+
+-- what a loop's place past the end of its array would hold
+abbrev pub nop : Step
+nop = record { size = Byte; form = Two Add (record { 0 = 0 }) (record { 0 = 0 }) }
+
+steps-snoc : (p : ℕ) (ks : List Step) (k : Step) → stepsText p (ks ++ (k ∷ [])) ≡ stepsText p ks ++ stepText (p + length ks) k
+unfolding stepsText
+steps-snoc p [] k = let e : p ≡ p + 0 = omega arith in rw (append-nil, ← e)
+steps-snoc p (m ∷ ks) k = let e : suc p + length ks ≡ p + suc (length ks) = omega arith in rw (steps-snoc (suc p) ks k, append-assoc, e)
+
+-- one more line
+pub steps-next : (l : List Step) (k : ℕ) → k < length l → stepsText 0 (take (k + 1) l) ≡ stepsText 0 (take k l) ++ stepText k (getD l k nop)
+steps-next l k h =
+    let m = length-take-le k l (omega arith) in
+    let e : 0 + length (take k l) ≡ k = omega arith in
+    rw (add-one, take-suc l k nop h, steps-snoc 0 (take k l) (getD l k nop), e)
+
+clocks-snoc : (ks : List Step) (k : Step) → clocksOf (ks ++ (k ∷ [])) ≡ clocksOf ks + figureOf k
+unfolding clocksOf
+clocks-snoc [] k = omega arith
+clocks-snoc (m ∷ ks) k = rw (clocks-snoc ks k) (omega arith)
+
+-- one more figure
+pub clocks-next : (l : List Step) (k : ℕ) → k < length l → clocksOf (take (k + 1) l) ≡ clocksOf (take k l) + figureOf (getD l k nop)
+clocks-next l k h = rw (add-one, take-suc l k nop h, clocks-snoc)
+
+-- how many steps there are
+pub take-many : (l : List Step) (n m : ℕ) → length l ≡ m → cond (ltb n m) n m ≡ length (take n l)
+take-many l n m e = go (decLe m n)
+  where
+    go : Dec (m ≤ n) → cond (ltb n m) n m ≡ length (take n l)
+    go (yes h) = rw (le-ltb n m h, take-all n l (omega arith), e)
+    go (no h) = rw (lt-ltb n m (omega arith), length-take-le n l (omega arith))

@@ -1,0 +1,124 @@
+-- Laws by which a translation in an array is that into any row of slots. Assumes nothing.
+--     ready           what `judge` answers is ready to be laid out
+--     laid            and laid out it is the translation into 256 blank slots
+--     translate-lent  and copied from there it is the translation into the slots that are lent
+--     blanks-count    a translation in an array has at most 256 steps
+--     settled-room    what is told of it for a row of slots has no more steps than the row
+--     settled-count   and no more than the array
+use Prim.Native.Nat.{ℕ, zero, suc, _+_, _*_, _≤_, _<_, min}
+use mathlib.Core.Bool.{Bool, true, false, cond}
+use mathlib.Core.List.{List, [], _∷_, _++_}
+use mathlib.Core.Path.{_≡_, refl, sym, ap, ap₂, _∙_}
+use native.Mathlib.Omega.{arith}
+use borrow.Author.Tests.{le-leb, lt-leb, le-ltb, lt-ltb, ltb-false}
+use native.Mathlib.Decide.{decLe}
+use lib.Dec.{leb, ltb}
+use lib.ListN.{length, take, drop, length-take, length-replicate, length-append}
+use lib.Seq.{take-at, take-all, length-take-le}
+use Rattle.step.specs.declared.steps.Step.{Step}
+use Rattle.recipes.specs.declared.types.Line.{Line}
+use Rattle.recipes.specs.declared.types.Recipe.{Recipe}
+use Rattle.recipes.specs.declared.types.Refusal.{Refusal}
+use Rattle.recipes.specs.declared.types.Refusal.the-variants.{Nothing, NoSpace}
+use Rattle.recipes.specs.declared.types.Translated.{Translated}
+use Rattle.recipes.specs.declared.types.Listing.{Listing}
+use Rattle.recipes.specs.Recipe.{recipeLines, Accepted}
+use Rattle.recipes.specs.Listing.{listingOf, stepsOf, over, listed, translateOf, translated, blank, blanks}
+use Rattle.recipes.specs.Making.{told, refused, judgeOf, Ready, settledOf}
+use Rattle.recipes.proofs.Steps.{listing-steps, listing-prefix, steps-most}
+use Rattle.recipes.proofs.Accepting.{tests-agree}
+
+-- a recipe's lines take at most 256 steps
+few-steps : (r : Recipe) → r .width ≤ 4 → r .count ≤ 32 → stepsOf (r .width) (recipeLines r) ≤ 256
+few-steps r w c =
+    let some : length (recipeLines r) ≡ min (r .count) (length (r .lines)) = length-take (r .count) (r .lines) in
+    let most = steps-most (r .width) (recipeLines r) w in omega arith
+
+pub ready : (r : Recipe) → length (r .lines) ≡ 32 → Ready (r .width) (r .lines) (judgeOf r .count)
+ready r n =
+    tests-agree (λ (t _ : Translated). Ready (r .width) (r .lines) (t .count)) refused refused (λ k line. none) r (told Nothing 0 (stepsOf (r .width) (recipeLines r)))
+    (told Nothing 0 (stepsOf (r .width) (recipeLines r))) whole
+  where
+    none : Ready (r .width) (r .lines) 0
+    none = record { many = 0; within = omega arith; width = λ h. absurd (omega arith); named = λ h. absurd (omega arith); counted = omega arith; held = omega arith }
+
+    whole : (0 < r .width) × (r .width ≤ 4) → r .count ≤ 32 → Accepted (r .width) (recipeLines r) → Ready (r .width) (r .lines) (stepsOf (r .width) (recipeLines r))
+    whole w c a = record { many = r .count; within = few-steps r (w .1) c; width = λ h. w; named = λ h. a; counted = omega arith; held = omega arith }
+
+-- the translation that stands where all tests are passed
+abbrev whole : (w : ℕ) (ls : List Line) (slots : List Step) → Listing
+whole w ls slots = cond (leb (stepsOf w ls) (length slots)) (listed Nothing 0 (stepsOf w ls) (over (listingOf w ls) slots)) (listed NoSpace 0 0 slots)
+
+-- where there is room, and where there is none
+whole-fits : (w : ℕ) (ls : List Line) (slots : List Step) → stepsOf w ls ≤ length slots → whole w ls slots ≡ listed Nothing 0 (stepsOf w ls) (over (listingOf w ls) slots)
+whole-fits w ls slots h = rw (le-leb (stepsOf w ls) (length slots) h)
+
+whole-short : (w : ℕ) (ls : List Line) (slots : List Step) → length slots < stepsOf w ls → whole w ls slots ≡ listed NoSpace 0 0 slots
+whole-short w ls slots h = rw (lt-leb (stepsOf w ls) (length slots) h)
+
+blanks-fit : (r : Recipe) → r .width ≤ 4 → r .count ≤ 32 → stepsOf (r .width) (recipeLines r) ≤ length blanks
+blanks-fit r w c = rw length-replicate (few-steps r w c)
+
+pub laid : (r : Recipe)
+    → listed (judgeOf r .refusal) (judgeOf r .line) (judgeOf r .count) (over (take (judgeOf r .count) (listingOf (r .width) (r .lines))) blanks) ≡ translateOf r blanks
+unfolding translateOf
+laid r =
+    tests-agree (λ (t : Translated) (l : Listing). listed (t .refusal) (t .line) (t .count) (over (take (t .count) (listingOf (r .width) (r .lines))) blanks) ≡ l)
+    refused (λ k line. listed k line 0 blanks) (λ k line. refl) r (told Nothing 0 (stepsOf (r .width) (recipeLines r)))
+    (whole (r .width) (recipeLines r) blanks) (λ w c a. there w c)
+  where
+    there : (0 < r .width) × (r .width ≤ 4) → r .count ≤ 32
+        → listed Nothing 0 (stepsOf (r .width) (recipeLines r)) (over (take (stepsOf (r .width) (recipeLines r)) (listingOf (r .width) (r .lines))) blanks)
+        ≡ whole (r .width) (recipeLines r) blanks
+    there w c =
+        rw (listing-prefix (r .width) (r .count) (r .lines)) (sym (whole-fits (r .width) (recipeLines r) blanks (blanks-fit r (w .1) c)))
+
+-- what the lent translator tells, and its slots, from a listing that was made in an array
+abbrev pub copied : Listing → List Step → Listing
+copied made slots =
+    let t = settledOf made (length slots) in
+    translated t (take (t .count) (made .steps) ++ drop (t .count) slots)
+
+pub translate-lent : (r : Recipe) (slots : List Step) → copied (translateOf r blanks) slots ≡ translateOf r slots
+unfolding translateOf
+translate-lent r slots =
+    tests-agree (λ (made l : Listing). copied made slots ≡ l) (λ k line. listed k line 0 blanks) (λ k line. listed k line 0 slots)
+    (λ k line. rw (le-ltb (length slots) 0 (omega arith))) r (whole (r .width) (recipeLines r) blanks) (whole (r .width) (recipeLines r) slots) there
+  where
+    room : Dec (stepsOf (r .width) (recipeLines r) ≤ length slots) → copied (listed Nothing 0 (stepsOf (r .width) (recipeLines r)) (over (listingOf (r .width) (recipeLines r)) blanks)) slots ≡ whole (r .width) (recipeLines r) slots
+    room (yes h) =
+        rw (
+          whole-fits (r .width) (recipeLines r) slots h,
+          le-ltb (length slots) (stepsOf (r .width) (recipeLines r)) h,
+          take-at (listingOf (r .width) (recipeLines r)) (drop (length (listingOf (r .width) (recipeLines r))) blanks) (stepsOf (r .width) (recipeLines r)) (listing-steps (r .width) (recipeLines r)),
+          listing-steps (r .width) (recipeLines r),
+        )
+    room (no h) =
+        rw (whole-short (r .width) (recipeLines r) slots (omega arith), lt-ltb (length slots) (stepsOf (r .width) (recipeLines r)) (omega arith))
+
+    there : (0 < r .width) × (r .width ≤ 4) → r .count ≤ 32 → Accepted (r .width) (recipeLines r)
+        → copied (whole (r .width) (recipeLines r) blanks) slots ≡ whole (r .width) (recipeLines r) slots
+    there w c a = rw (whole-fits (r .width) (recipeLines r) blanks (blanks-fit r (w .1) c)) (room (decLe (stepsOf (r .width) (recipeLines r)) (length slots)))
+
+pub blanks-count : (r : Recipe) → translateOf r blanks .count ≤ 256
+unfolding translateOf
+blanks-count r =
+    tests-agree (λ (l _ : Listing). l .count ≤ 256) (λ k line. listed k line 0 blanks) (λ k line. listed k line 0 blanks) (λ k line. omega arith) r
+    (whole (r .width) (recipeLines r) blanks) (whole (r .width) (recipeLines r) blanks) (λ w c a. there w c)
+  where
+    there : (0 < r .width) × (r .width ≤ 4) → r .count ≤ 32 → whole (r .width) (recipeLines r) blanks .count ≤ 256
+    there w c = rw (whole-fits (r .width) (recipeLines r) blanks (blanks-fit r (w .1) c)) (few-steps r (w .1) c)
+
+pub settled-room : (made : Listing) (room : ℕ) → settledOf made room .count ≤ room
+settled-room made room = go (ltb room (made .count)) refl
+  where
+    go : (t : Bool) → ltb room (made .count) ≡ t → cond t (refused NoSpace 0) (told (made .refusal) (made .line) (made .count)) .count ≤ room
+    go true h = omega arith
+    go false h = omega (arith, ltb-false room (made .count) h)
+
+pub settled-count : (made : Listing) (room : ℕ) → settledOf made room .count ≤ made .count
+settled-count made room = go (ltb room (made .count))
+  where
+    go : (t : Bool) → cond t (refused NoSpace 0) (told (made .refusal) (made .line) (made .count)) .count ≤ made .count
+    go true = omega arith
+    go false = omega arith

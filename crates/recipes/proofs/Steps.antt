@@ -1,0 +1,113 @@
+-- Laws of the listing's length: document 01's number of steps. Assumes nothing.
+--     line-length     a line has w steps, a copy 2w
+--     listing-steps   so a listing has `stepsOf`
+--     steps-most      at most 8 a line, so that 32 lines have at most 256
+use Prim.Native.Nat.{ℕ, zero, suc, _+_, _*_, _≤_, _<_}
+use mathlib.Core.Bool.{Bool, true, false, cond}
+use mathlib.Core.List.{List, [], _∷_, _++_}
+use mathlib.Core.Path.{_≡_, refl}
+use native.Mathlib.Omega.{arith}
+use lib.ListN.{length, take, getD, length-append}
+use lib.Seq.{take-append-add}
+use Rattle.recipes.specs.declared.types.Verb.{Verb}
+use Rattle.recipes.specs.declared.types.Verb.the-variants.{Clear, Copy, Add, Sub, Neg, Not, Halve, Down, Up}
+use Rattle.recipes.specs.declared.types.Line.{Line}
+use Rattle.recipes.specs.Recipe.{target, unused}
+use Rattle.recipes.specs.Listing.{firstOf, nextOf, highestFirst, upward, downward, rising, falling, lineSteps, listingOf, stepsAt, stepsOf}
+
+pub first-length : (v : Verb) (p q : ℕ) → length (firstOf v p q) ≡ stepsAt v
+first-length Clear p q = refl
+first-length Copy p q = refl
+first-length Add p q = refl
+first-length Sub p q = refl
+first-length Neg p q = refl
+first-length Not p q = refl
+first-length Halve p q = refl
+first-length Down p q = refl
+first-length Up p q = refl
+
+pub next-length : (v : Verb) (p q : ℕ) → length (nextOf v p q) ≡ stepsAt v
+next-length Clear p q = refl
+next-length Copy p q = refl
+next-length Add p q = refl
+next-length Sub p q = refl
+next-length Neg p q = refl
+next-length Not p q = refl
+next-length Halve p q = refl
+next-length Down p q = refl
+next-length Up p q = refl
+
+pub steps-at-most : (v : Verb) → (1 ≤ stepsAt v) × (stepsAt v ≤ 2)
+steps-at-most Clear = (omega arith, omega arith)
+steps-at-most Copy = (omega arith, omega arith)
+steps-at-most Add = (omega arith, omega arith)
+steps-at-most Sub = (omega arith, omega arith)
+steps-at-most Neg = (omega arith, omega arith)
+steps-at-most Not = (omega arith, omega arith)
+steps-at-most Halve = (omega arith, omega arith)
+steps-at-most Down = (omega arith, omega arith)
+steps-at-most Up = (omega arith, omega arith)
+
+pub upward-length : (v : Verb) (n p q : ℕ) → length (upward v n p q) ≡ stepsAt v * n
+unfolding upward
+upward-length v zero p q = omega arith
+upward-length v (suc n) p q = rw (length-append, next-length v p q, upward-length v n (suc p) (suc q)) (omega arith)
+
+pub downward-length : (v : Verb) (n p q : ℕ) → length (downward v n p q) ≡ stepsAt v * n
+unfolding downward
+downward-length v zero p q = omega arith
+downward-length v (suc n) p q = rw (length-append, next-length v (p + n) (q + n), downward-length v n p q) (omega arith)
+
+rising-length : (v : Verb) (n p q : ℕ) → length (rising v n p q) ≡ stepsAt v * n
+rising-length v zero p q = omega arith
+rising-length v (suc n) p q = rw (length-append, first-length v p q, upward-length v n (suc p) (suc q)) (omega arith)
+
+falling-length : (v : Verb) (n p q : ℕ) → length (falling v n p q) ≡ stepsAt v * n
+falling-length v zero p q = omega arith
+falling-length v (suc n) p q = rw (length-append, first-length v (p + n) (q + n), downward-length v n p q) (omega arith)
+
+pub line-length : (w : ℕ) (l : Line) → length (lineSteps w l) ≡ stepsAt (l .verb) * w
+unfolding lineSteps
+line-length w l = go (highestFirst (l .verb))
+  where
+    go : (t : Bool) → length (cond t (falling (l .verb) w (l .a * w) (target l * w)) (rising (l .verb) w (l .a * w) (target l * w))) ≡ stepsAt (l .verb) * w
+    go true = falling-length (l .verb) w (l .a * w) (target l * w)
+    go false = rising-length (l .verb) w (l .a * w) (target l * w)
+
+pub listing-steps : (w : ℕ) (ls : List Line) → length (listingOf w ls) ≡ stepsOf w ls
+unfolding listingOf stepsOf
+listing-steps w [] = refl
+listing-steps w (l ∷ ls) = rw (length-append, line-length w l, listing-steps w ls)
+
+pub steps-most : (w : ℕ) (ls : List Line) → w ≤ 4 → stepsOf w ls ≤ 8 * length ls
+unfolding stepsOf
+steps-most w [] h = omega arith
+steps-most w (l ∷ ls) h = more (stepsAt (l .verb)) (steps-at-most (l .verb) .1) (steps-most w ls h)
+  where
+    more : (k : ℕ) → k ≤ 2 → stepsOf w ls ≤ 8 * length ls → k * w + stepsOf w ls ≤ 8 * suc (length ls)
+    more zero e i = omega arith
+    more (suc zero) e i = omega arith
+    more (suc (suc zero)) e i = omega arith
+    more (suc (suc (suc k))) e i = absurd (omega arith)
+
+-- the listing of the first lines is the first part of the listing
+pub listing-prefix : (w n : ℕ) (ls : List Line) → take (stepsOf w (take n ls)) (listingOf w ls) ≡ listingOf w (take n ls)
+unfolding listingOf stepsOf
+listing-prefix w zero ls = refl
+listing-prefix w (suc n) [] = refl
+listing-prefix w (suc n) (l ∷ ls) =
+    rw (← line-length w l, take-append-add, listing-prefix w n ls)
+
+-- one line more
+pub steps-more : (w k : ℕ) (ls : List Line) → k < length ls → stepsOf w (take (suc k) ls) ≡ stepsOf w (take k ls) + stepsAt (getD ls k unused .verb) * w
+unfolding stepsOf
+steps-more w k [] h = absurd (omega arith)
+steps-more w zero (l ∷ ls) h = omega arith
+steps-more w (suc k) (l ∷ ls) h = rw (steps-more w k ls (omega arith)) (omega arith)
+
+-- the first lines have no more steps than all
+pub steps-prefix : (w n : ℕ) (ls : List Line) → stepsOf w (take n ls) ≤ stepsOf w ls
+unfolding stepsOf
+steps-prefix w zero ls = omega arith
+steps-prefix w (suc n) [] = omega arith
+steps-prefix w (suc n) (l ∷ ls) = let h = steps-prefix w n ls in omega arith

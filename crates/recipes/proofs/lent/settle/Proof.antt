@@ -1,0 +1,13 @@
+-- `recipes::lent::settle` meets its contract: its test is the definition's. Assumes nothing.
+use borrow.Author.Tests.{lt-ltb, le-ltb}
+use Rattle.recipes.proofs.lent.settle.Statement.{statement}
+use Rattle.recipes.proofs.lent.settle.Tie as tie
+
+returns : tie.Need-returns
+returns c = rw (lt-ltb _ _ (c .if1 .taken))
+
+returns-2 : tie.Need-returns-2
+returns-2 c = rw (le-ltb _ _ (c .if1 .left))
+
+pub settle-spec : {M : Type 1} → statement M
+settle-spec = tie.close (tie.spec returns returns-2)

@@ -1,0 +1,75 @@
+-- `recipes::printer::clocks` meets its contract: a turn of the loop adds one figure. Assumes nothing.
+use Prim.Native.Nat.{_-_, _*_, _^_, _≤_, _<_}
+use mathlib.Core.Path.{_≡_, _∙_, ap₂, refl}
+use native.Mathlib.Omega.{arith}
+use lib.Seq.{take-all}
+use lib.ListN.{length, take}
+use borrow.Author.Needs.{needs}
+use Rattle.recipes.specs.Printer.{clocksOf}
+use Rattle.recipes.proofs.Writing.{mapped}
+use Rattle.recipes.proofs.Printing.{clocks-next}
+use Rattle.recipes.proofs.printer.clocks.Statement.{statement}
+use Rattle.recipes.proofs.printer.clocks.Tie as tie
+
+abbrev Inv-loop : tie.InvT-loop
+Inv-loop count steps sum₀ k₀ sum k = (k ≤ 256) × (k ≤ count) × (length steps ≡ 256) × (sum ≡ clocksOf (take k steps)) × (sum ≤ k * 2 ^ 32)
+
+abbrev μ-loop : tie.MeasureT-loop
+μ-loop count steps sum₀ k₀ sum k = 256 - k
+
+loop-holds : tie.Need-loop-holds Inv-loop μ-loop
+unfolding clocksOf
+loop-holds c = let h : length (c .args .t1) ≡ 256 = search mapped in (search needs, search needs, h, refl, search needs)
+
+returns : tie.Need-returns Inv-loop μ-loop
+returns c = let l = c .before .before .loop in let e : l .k ≡ c .before .before .before .args .count = omega arith in rw e at (l .inv .3)
+
+mul-step : tie.Need-mul-step Inv-loop μ-loop
+mul-step c = search needs
+
+array-copy-out-step : tie.Need-array-copy-out-step Inv-loop μ-loop
+array-copy-out-step c = search needs
+
+figure-requires : tie.Need-figure-requires Inv-loop μ-loop
+figure-requires c κs = search needs
+
+add-sum : tie.Need-add-sum Inv-loop μ-loop
+add-sum c = search needs
+
+add-k : tie.Need-add-k Inv-loop μ-loop
+add-k c = search needs
+
+loop-less : tie.Need-loop-less Inv-loop μ-loop
+loop-less c = search needs
+
+loop-again : tie.Need-loop-again Inv-loop μ-loop
+loop-again c =
+    let e = c .before .before in
+    let l = e .before .before .loop in
+    let h : l .k < length (e .before .before .before .args .t1) = search needs in
+    (search needs, search needs, l .inv .2, rw (clocks-next _ _ h, c .figure .ensures .0, l .inv .3), search needs)
+
+returns-2 : tie.Need-returns-2 Inv-loop μ-loop
+returns-2 c =
+    let l = c .before .loop in
+    let a = c .before .before .args in
+    let all : length (a .t1) ≤ a .count = search needs in
+    let done : length (a .t1) ≤ l .k = search needs in
+    rw (take-all _ _ all) (rw (take-all _ _ done) at (l .inv .3))
+
+pub clocks-spec : {M : Type 1} → statement M
+clocks-spec =
+    tie.close
+    (tie.spec
+    Inv-loop
+    μ-loop
+    loop-holds
+    returns
+    mul-step
+    array-copy-out-step
+    figure-requires
+    add-sum
+    add-k
+    loop-less
+    loop-again
+    returns-2)

@@ -1,0 +1,12 @@
+use borrow.Author.Tests.{lt-ltb, le-ltb}
+use Rattle.recipes.proofs.printer.lesser.Statement.{statement}
+use Rattle.recipes.proofs.printer.lesser.Tie as tie
+
+returns : tie.Need-returns
+returns c = rw (lt-ltb _ _ (c .if1 .taken))
+
+returns-2 : tie.Need-returns-2
+returns-2 c = rw (le-ltb _ _ (c .if1 .left))
+
+pub lesser-spec : {M : Type 1} → statement M
+lesser-spec = tie.close (tie.spec returns returns-2)

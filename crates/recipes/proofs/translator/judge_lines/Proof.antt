@@ -1,0 +1,105 @@
+-- `recipes::translator::judge_lines` meets its contract: a turn of the loop passes or refuses one line, by the laws of Judging. Assumes nothing.
+use Prim.Native.Nat.{ℕ, _-_, _<_, _≤_}
+use mathlib.Core.Path.{_≡_, sym, _∙_}
+use native.Mathlib.Omega.{arith}
+use lib.ListN.{length}
+use borrow.Author.Needs.{needs}
+use Rattle.recipes.proofs.Writing.{mapped}
+use Rattle.recipes.proofs.Judging.{Passed, passed-none, passed-slip, passed-more, passed-all}
+use Rattle.recipes.proofs.translator.judge_lines.Statement.{statement}
+use Rattle.recipes.proofs.translator.judge_lines.Tie as tie
+
+abbrev Inv-loop : tie.InvT-loop
+Inv-loop width count lines numbers steps₀ k₀ steps k = (k ≤ 32) × Passed width count lines steps k
+
+abbrev μ-loop : tie.MeasureT-loop
+μ-loop width count lines numbers steps₀ k₀ steps k = count - k
+
+div-numbers : tie.Need-div-numbers Inv-loop μ-loop
+div-numbers c = search needs
+
+loop-holds : tie.Need-loop-holds Inv-loop μ-loop
+loop-holds c =
+    let h : length (c .args .t3) ≡ 32 = search mapped in
+    let m = c .pre .1 .1 in
+    (search needs, passed-none (c .args .width) (c .args .count) (c .args .t3) (omega arith))
+
+mul-line : tie.Need-mul-line Inv-loop μ-loop
+mul-line c = search needs
+
+array-copy-out-line : tie.Need-array-copy-out-line Inv-loop μ-loop
+array-copy-out-line c = search needs
+
+check-line-requires : tie.Need-check-line-requires Inv-loop μ-loop
+check-line-requires c κs = search needs
+
+enum-known-refusal : tie.Need-enum-known-refusal Inv-loop μ-loop
+enum-known-refusal c = search needs
+
+add-refused : tie.Need-add-refused Inv-loop μ-loop
+add-refused c = search needs
+
+refused-requires : tie.Need-refused-requires Inv-loop μ-loop
+refused-requires c κs = search needs
+
+returns : tie.Need-returns Inv-loop μ-loop
+returns c =
+    let k = c .before .before in
+    let e = k .before .before in
+    let t = e .before .before in
+    let l = t .before .loop in
+    c .refused .ensures ∙ passed-slip _ _ _ _ _ (l .inv .1) _ (t .loop-test .taken) (sym (e .check-line .ensures) ∙ k .refusal .given .1)
+
+enum-told : tie.Need-enum-told Inv-loop μ-loop
+enum-told c = search needs
+
+steps-of-requires : tie.Need-steps-of-requires Inv-loop μ-loop
+steps-of-requires c κs = search needs
+
+cast-steps : tie.Need-cast-steps Inv-loop μ-loop
+cast-steps c = search needs
+
+add-steps : tie.Need-add-steps Inv-loop μ-loop
+add-steps c = let l = c .before .before .before .before .before .before .loop in let h = l .inv .1 .few in let m = c .steps-of .ensures .1 in search needs
+
+add-k : tie.Need-add-k Inv-loop μ-loop
+add-k c = search needs
+
+loop-less : tie.Need-loop-less Inv-loop μ-loop
+loop-less c = search needs
+
+loop-again : tie.Need-loop-again Inv-loop μ-loop
+loop-again c =
+    let e = c .before .before .before in
+    let t = e .before .before in
+    let l = t .before .loop in (
+      search needs,
+      passed-more _ _ _ _ _ (l .inv .1) _ _ (t .before .before .pre .1 .0) (t .loop-test .taken) (sym (e .check-line .ensures) ∙ c .before .enum-told .given .1) (c .steps-of .ensures .0) (c .steps-of .ensures .1),
+    )
+
+returns-2 : tie.Need-returns-2 Inv-loop μ-loop
+returns-2 c = passed-all _ _ _ _ _ (c .before .loop .inv .1) (c .loop-test .left)
+
+pub judge-lines-spec : {M : Type 1} → statement M
+judge-lines-spec =
+    tie.close
+    (tie.spec
+    Inv-loop
+    μ-loop
+    div-numbers
+    loop-holds
+    mul-line
+    array-copy-out-line
+    check-line-requires
+    enum-known-refusal
+    add-refused
+    refused-requires
+    returns
+    enum-told
+    steps-of-requires
+    cast-steps
+    add-steps
+    add-k
+    loop-less
+    loop-again
+    returns-2)

@@ -1,0 +1,19 @@
+-- `recipes::translator::part_of` meets its contract: a copy has two steps a word, any other verb one. Assumes nothing.
+use native.Mathlib.Nat.{mod-one}
+use borrow.Author.Needs.{needs}
+use mathlib.Core.Path.{sym, _∙_}
+use Rattle.recipes.proofs.Words.{copy-steps, other-steps}
+use Rattle.recipes.proofs.translator.part_of.Statement.{statement}
+use Rattle.recipes.proofs.translator.part_of.Tie as tie
+
+is-copy-requires : tie.Need-is-copy-requires
+is-copy-requires c κs = search needs
+
+returns : tie.Need-returns
+returns c = rw (copy-steps _ (sym (c .before .is-copy .ensures) ∙ c .if1 .taken))
+
+returns-2 : tie.Need-returns-2
+returns-2 c = rw (other-steps _ (sym (c .before .is-copy .ensures) ∙ c .if1 .left), mod-one)
+
+pub part-of-spec : {M : Type 1} → statement M
+part-of-spec = tie.close (tie.spec is-copy-requires returns returns-2)
