@@ -55,7 +55,7 @@ fn write(file: &str, text: String) {
     }
 }
 
-/// RATTLE_LIB: the folder of the port's libcalls.a, or libstep.a.
+/// RATTLE_LIB: the folder of the port's libcalls.a, libstep.a or librecipes.a.
 fn link_port(name: &str) {
     println!("cargo::rerun-if-env-changed=RATTLE_LIB");
     let folder = variable("RATTLE_LIB");
@@ -74,7 +74,11 @@ fn main() {
     let folder = source();
     write("core.rs", modules(&folder, &CORE));
     write("instructions.rs", modules(&folder.join("instructions"), &INSTRUCTIONS));
-    for (feature, name) in [("CARGO_FEATURE_PORT", "calls"), ("CARGO_FEATURE_STEP", "step")] {
+    for (feature, name) in [
+        ("CARGO_FEATURE_PORT", "calls"),
+        ("CARGO_FEATURE_STEP", "step"),
+        ("CARGO_FEATURE_RECIPES", "recipes"),
+    ] {
         if env::var_os(feature).is_some() {
             link_port(name);
         }

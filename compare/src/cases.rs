@@ -21,12 +21,27 @@ fn counts() -> Vec<u32> {
 pub struct Random(pub u64);
 
 impl Random {
+    /// With the number in SEED as seed, or 1979; it is printed. None if SEED is no number.
+    pub fn seeded() -> Option<Random> {
+        let seed = std::env::var("SEED").map_or(Some(1979), |word| word.parse().ok())?;
+        println!("seed {seed}");
+        Some(Random(seed))
+    }
+
     pub fn bits(&mut self) -> u64 {
         self.0 = self.0.wrapping_add(0x9E37_79B9_7F4A_7C15);
         let mut z = self.0;
         z = (z ^ (z >> 30)).wrapping_mul(0xBF58_476D_1CE4_E5B9);
         z = (z ^ (z >> 27)).wrapping_mul(0x94D0_49BB_1331_11EB);
         z ^ (z >> 31)
+    }
+
+    pub fn below(&mut self, limit: usize) -> usize {
+        (self.bits() % limit as u64) as usize
+    }
+
+    pub fn pick<T: Copy>(&mut self, of: &[T]) -> T {
+        of[self.below(of.len())]
     }
 
     /// A number that is often at or next to a boundary.

@@ -23,7 +23,11 @@ pub mod packed;
 pub mod port;
 #[cfg(feature = "step")]
 pub mod ported;
+#[cfg(feature = "recipes")]
+pub mod ported_recipes;
+pub mod recipes;
 pub mod shim;
 pub mod steps;
+pub mod texts;
 pub mod tuned;
 pub mod vectors;

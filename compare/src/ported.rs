@@ -2,7 +2,7 @@
 //! slice by a pointer to its pointer and length. The layouts are those of `steps`; a digest of all answers tells if one
 //! is not.
 
-use crate::steps::{Class, End, Fault, Ran, State, Step};
+use crate::steps::{Class, End, Fault, Ran, Slice, State, Step};
 use std::mem::MaybeUninit;
 
 /// step::runs::Ran
@@ -34,13 +34,6 @@ struct Told {
     clocks: u32,
 }
 
-/// &[Step] or &mut [Step]
-#[repr(C)]
-struct Slice {
-    at: *const Step,
-    length: usize,
-}
-
 unsafe extern "C" {
     fn step_runs_run_array(
         answer: *mut Answer,
@@ -52,14 +45,14 @@ unsafe extern "C" {
     );
     fn step_lent_run(
         answer: *mut Answer,
-        listing: *const Slice,
+        listing: *const Slice<Step>,
         state: *const State,
         start: usize,
         budget: u32,
     );
     fn step_lent_perform_in(answer: *mut Told, state: *mut State, step: *const Step);
-    fn step_lent_fetch(answer: *mut Step, listing: *const Slice, at: usize, other: *const Step);
-    fn step_lent_store(listing: *const Slice, at: usize, step: *const Step);
+    fn step_lent_fetch(answer: *mut Step, listing: *const Slice<Step>, at: usize, other: *const Step);
+    fn step_lent_store(listing: *const Slice<Step>, at: usize, step: *const Step);
 }
 
 fn answered(state: &mut State, ask: impl FnOnce(*mut Answer, *const State)) -> Ran {

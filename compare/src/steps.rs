@@ -2,7 +2,7 @@
 //! listing in memory is run by both; and the listings that `runs` runs, made of random numbers. A digest stands for all
 //! that the runs of a listing answer.
 
-#[derive(Clone, Copy, PartialEq)]
+#[derive(Clone, Copy, PartialEq, Debug)]
 #[repr(u8)]
 pub enum Size {
     Byte,
@@ -18,7 +18,7 @@ pub struct Flags {
     pub v: bool,
     pub c: bool,
 }
-#[derive(Clone, Copy)]
+#[derive(Clone, Copy, PartialEq, Debug)]
 #[repr(u8)]
 pub enum Two {
     Add,
@@ -27,20 +27,20 @@ pub enum Two {
     Addx,
     Subx,
 }
-#[derive(Clone, Copy)]
+#[derive(Clone, Copy, PartialEq, Debug)]
 #[repr(u8)]
 pub enum Adr {
     Adda,
     Suba,
     Cmpa,
 }
-#[derive(Clone, Copy)]
+#[derive(Clone, Copy, PartialEq, Debug)]
 #[repr(u8)]
 pub enum Quick {
     Addq,
     Subq,
 }
-#[derive(Clone, Copy)]
+#[derive(Clone, Copy, PartialEq, Debug)]
 #[repr(u8)]
 pub enum One {
     Clr,
@@ -49,7 +49,7 @@ pub enum One {
     Not,
     Ext,
 }
-#[derive(Clone, Copy)]
+#[derive(Clone, Copy, PartialEq, Debug)]
 #[repr(u8)]
 pub enum Shift {
     Asl,
@@ -61,7 +61,7 @@ pub enum Shift {
     Roxl,
     Roxr,
 }
-#[derive(Clone, Copy)]
+#[derive(Clone, Copy, PartialEq, Debug)]
 #[repr(u8)]
 pub enum Bit {
     Btst,
@@ -69,19 +69,19 @@ pub enum Bit {
     Bclr,
     Bchg,
 }
-#[derive(Clone, Copy)]
+#[derive(Clone, Copy, PartialEq, Debug)]
 #[repr(u8)]
 pub enum Register {
     Data(u8),
     Address(u8),
 }
-#[derive(Clone, Copy)]
+#[derive(Clone, Copy, PartialEq, Debug)]
 #[repr(u8)]
 pub enum Count {
     Small(u8),
     Data(u8),
 }
-#[derive(Clone, Copy)]
+#[derive(Clone, Copy, PartialEq, Debug)]
 #[repr(u8)]
 pub enum Form {
     Two(Two, u8, u8),
@@ -92,7 +92,7 @@ pub enum Form {
     Bit(Bit, Count, u8),
     Chk(u8, u8),
 }
-#[derive(Clone, Copy)]
+#[derive(Clone, Copy, PartialEq, Debug)]
 #[repr(C)]
 pub struct Step {
     pub size: Size,
@@ -137,6 +137,12 @@ pub struct Ran {
     pub next: usize,
     pub steps: u32,
     pub clocks: u64,
+}
+/// &[T] or &mut [T]
+#[repr(C)]
+pub struct Slice<T> {
+    pub at: *const T,
+    pub length: usize,
 }
 
 pub const FIRST: State = State {

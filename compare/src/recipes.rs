@@ -1,0 +1,217 @@
+//! A reading of document 01's recipes: from a text to a recipe, from that to a listing, from that to what is printed. It
+//! is written from the document alone, with lists and strings. Of the port it has the layout of the records, as in
+//! `steps`, and what the reader fills unused ones with.
+
+use crate::steps::{Count, Form, One, Shift, Size, Step, Two};
+use std::fmt::Write;
+use std::iter::{once, repeat};
+
+#[derive(Clone, Copy, PartialEq, Debug)]
+#[repr(u8)]
+pub enum Verb {
+    Clear,
+    Copy,
+    Add,
+    Sub,
+    Neg,
+    Not,
+    Halve,
+    Down,
+    Up,
+}
+
+/// Each verb with its word, and how many numbers it takes.
+pub const VERBS: [(Verb, &str, usize); 9] = [
+    (Verb::Clear, "clear", 1),
+    (Verb::Copy, "copy", 2),
+    (Verb::Add, "add", 2),
+    (Verb::Sub, "sub", 2),
+    (Verb::Neg, "neg", 1),
+    (Verb::Not, "not", 1),
+    (Verb::Halve, "halve", 1),
+    (Verb::Down, "down", 1),
+    (Verb::Up, "up", 1),
+];
+
+/// A verb that takes one number has it in `a`; the reader makes its `b` 0.
+#[derive(Clone, Copy, PartialEq, Debug)]
+#[repr(C)]
+pub struct Line {
+    pub verb: Verb,
+    pub a: u8,
+    pub b: u8,
+}
+
+/// As many lines as a recipe may have.
+pub const MOST: usize = 32;
+
+/// The first `count` lines are the recipe's; the reader makes the others `clear 0`.
+#[derive(Clone, Copy, PartialEq, Debug)]
+#[repr(C)]
+pub struct Recipe {
+    pub width: u8,
+    pub count: usize,
+    pub lines: [Line; MOST],
+}
+
+impl Recipe {
+    /// A recipe without lines.
+    pub fn empty(width: u8) -> Recipe {
+        Recipe { width, count: 0, lines: [Line { verb: Verb::Clear, a: 0, b: 0 }; MOST] }
+    }
+}
+
+/// A refusal's number, and its text line.
+#[derive(Clone, Copy, PartialEq, Debug)]
+pub struct Refused {
+    pub number: u8,
+    pub line: usize,
+}
+
+/// The widths that there are.
+pub const WIDTHS: [u8; 3] = [1, 2, 4];
+
+/// Whether a line that is well written names what isn't there (6), or copies a number onto itself (7).
+fn fault(width: u8, line: &Line) -> Option<u8> {
+    let (_, _, takes) = VERBS[line.verb as usize];
+    let named = &[line.a, line.b][..takes];
+    if named.iter().any(|&number| number >= 8 / width) {
+        Some(6)
+    } else if line.verb == Verb::Copy && line.a == line.b {
+        Some(7)
+    } else {
+        None
+    }
+}
+
+fn digit(field: &[u8]) -> Option<u8> {
+    match field {
+        [byte @ b'0'..=b'9'] => Some(byte - b'0'),
+        _ => None,
+    }
+}
+
+/// A line with its byte 10, if it is a verb with as many digits as that takes.
+fn line_of(text: &[u8]) -> Option<Line> {
+    let mut fields = text.strip_suffix(b"\n")?.split(|&byte| byte == b'\t');
+    let word = fields.next()?;
+    let &(verb, _, takes) = VERBS.iter().find(|(_, name, _)| name.as_bytes() == word)?;
+    let numbers = fields.map(digit).collect::<Option<Vec<u8>>>()?;
+    (numbers.len() == takes).then(|| Line { verb, a: numbers[0], b: *numbers.get(1).unwrap_or(&0) })
+}
+
+/// The reader. A text has begun a line if there is a byte of it.
+pub fn read(text: &[u8]) -> Result<Recipe, Refused> {
+    let mut lines = text.split_inclusive(|&byte| byte == b'\n');
+    let first = lines.next().unwrap_or_default();
+    let width = WIDTHS.into_iter().find(|width| first == format!("width\t{width}\n").as_bytes());
+    let mut recipe = Recipe::empty(width.ok_or(Refused { number: 4, line: 1 })?);
+    for (at, text) in lines.enumerate() {
+        let refused = |number| Refused { number, line: at + 2 };
+        if at == MOST {
+            return Err(refused(8));
+        }
+        let line = line_of(text).ok_or(refused(5))?;
+        if let Some(number) = fault(recipe.width, &line) {
+            return Err(refused(number));
+        }
+        recipe.lines[at] = line;
+        recipe.count += 1;
+    }
+    Ok(recipe)
+}
+
+/// The operation on the register that comes first, then that on each other.
+fn in_turn<T: Copy>(first: T, others: T) -> impl Iterator<Item = T> {
+    once(first).chain(repeat(others))
+}
+
+fn steps_of(width: u8, line: &Line) -> Vec<Form> {
+    let registers = |number: u8| number * width..(number + 1) * width;
+    let pairs = || registers(line.a).zip(registers(line.b));
+    let two = |first, others| {
+        in_turn(first, others).zip(pairs()).map(|(op, (from, to))| Form::Two(op, from, to)).collect()
+    };
+    let one = |first, others| {
+        in_turn(first, others).zip(registers(line.a)).map(|(op, on)| Form::One(op, on)).collect()
+    };
+    let by_one = |(op, on)| Form::Shift(op, Count::Small(1), on);
+    let upwards = |first, others| in_turn(first, others).zip(registers(line.a)).map(by_one).collect();
+    let downwards = |first, others| in_turn(first, others).zip(registers(line.a).rev()).map(by_one).collect();
+    match line.verb {
+        Verb::Clear => one(One::Clr, One::Clr),
+        Verb::Copy => {
+            pairs().flat_map(|(from, to)| [Form::One(One::Clr, to), Form::Two(Two::Add, from, to)]).collect()
+        }
+        Verb::Add => two(Two::Add, Two::Addx),
+        Verb::Sub => two(Two::Sub, Two::Subx),
+        Verb::Neg => one(One::Neg, One::Negx),
+        Verb::Not => one(One::Not, One::Not),
+        Verb::Halve => downwards(Shift::Asr, Shift::Roxr),
+        Verb::Down => downwards(Shift::Lsr, Shift::Roxr),
+        Verb::Up => upwards(Shift::Lsl, Shift::Roxl),
+    }
+}
+
+/// The translator, for a listing of that many slots. Lines past `count` don't count, nor does a `b` that isn't taken.
+pub fn translate(recipe: &Recipe, slots: usize) -> Result<Vec<Step>, Refused> {
+    if !WIDTHS.contains(&recipe.width) {
+        return Err(Refused { number: 4, line: 1 });
+    }
+    if recipe.count > MOST {
+        return Err(Refused { number: 8, line: 0 });
+    }
+    let lines = &recipe.lines[..recipe.count];
+    for (at, line) in lines.iter().enumerate() {
+        if let Some(number) = fault(recipe.width, line) {
+            return Err(Refused { number, line: at + 2 });
+        }
+    }
+    let steps: Vec<Step> = lines
+        .iter()
+        .flat_map(|line| steps_of(recipe.width, line))
+        .map(|form| Step { size: Size::Long, form })
+        .collect();
+    if steps.len() > slots { Err(Refused { number: 9, line: 0 }) } else { Ok(steps) }
+}
+
+/// A step's operation, source, destination and clock figure.
+fn told(step: &Step) -> (String, String, u8, u64) {
+    match step.form {
+        Form::Two(op, from, to) => (format!("{op:?}"), format!("D{from}"), to, 4),
+        Form::One(op, on) => (format!("{op:?}"), "-".into(), on, 6),
+        Form::Shift(op, Count::Small(by), on) => {
+            (format!("{op:?}"), format!("#{by}"), on, 8 + 2 * u64::from(by))
+        }
+        form => unreachable!("no recipe has the step {form:?}"),
+    }
+}
+
+/// The sum of a listing's figures.
+pub fn clocks(listing: &[Step]) -> u64 {
+    listing.iter().map(|step| told(step).3).sum()
+}
+
+fn print(width: u8, listing: &[Step]) -> String {
+    let mut out = format!("width\t{width}\t{}\n", listing.len());
+    for (place, step) in listing.iter().enumerate() {
+        let (operation, source, destination, _) = told(step);
+        let operation = operation.to_uppercase();
+        // A string takes all that is written to it.
+        let _ = writeln!(out, "{place}\t{operation}\tL\t{source}\tD{destination}");
+    }
+    out + &format!("clocks\t{}\n", clocks(listing))
+}
+
+/// What the program reads of its input.
+pub fn taken(input: &[u8]) -> &[u8] {
+    &input[..input.len().min(1024)]
+}
+
+/// What it prints.
+pub fn answer(text: &[u8]) -> String {
+    match read(text).and_then(|recipe| Ok((recipe.width, translate(&recipe, 256)?))) {
+        Ok((width, listing)) => print(width, &listing),
+        Err(Refused { number, line }) => format!("refused\t{number}\t{line}\n"),
+    }
+}
