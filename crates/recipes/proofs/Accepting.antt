@@ -1,5 +1,7 @@
 -- Laws of the tests of lines and recipes. Assumes nothing.
 --     checked-names   a line that is read past 6 and 7 names numbers, and copies none onto itself
+--     checked-same, checked-slip   it is read as it stands, and a slip has a number
+--     names-checked   and one that does so passes
 --     width-is        a width is at least 1 and at most 4
 --     tests-agree     two answers that go through the same tests agree, if they agree where a test refuses, and where a recipe is accepted
 use Prim.Native.Nat.{ℕ, zero, suc, _+_, _/_, _≤_, _<_}
@@ -7,11 +9,11 @@ use mathlib.Core.Bool.{Bool, true, false, cond, _||_, false≢true}
 use mathlib.Core.List.{List, [], _∷_}
 use mathlib.Core.Path.{_≡_, refl, sym, ap, _∙_}
 use native.Mathlib.Omega.{arith}
-use borrow.Author.Tests.{leb-true, leb-false, eqb-true, eqb-false}
+use borrow.Author.Tests.{leb-true, leb-false, lt-leb, eqb-true, eqb-false, ne-eqb}
 use lib.Dec.{eqb, leb}
 use lib.ListN.{take}
 use Rattle.recipes.specs.declared.types.Verb.{Verb}
-use Rattle.recipes.specs.declared.types.Verb.the-variants.{Copy}
+use Rattle.recipes.specs.declared.types.Verb.the-variants.{Clear, Copy, Add, Sub, Neg, Not, Halve, Down, Up}
 use Rattle.recipes.specs.declared.types.Line.{Line}
 use Rattle.recipes.specs.declared.types.Recipe.{Recipe}
 use Rattle.recipes.specs.declared.types.Refusal.{Refusal}
@@ -20,6 +22,7 @@ use Rattle.recipes.specs.declared.reader.LineRead.{LineRead}
 use Rattle.recipes.specs.declared.reader.LineRead.the-variants.{Read, Slip}
 use Rattle.recipes.specs.Recipe.{takesTwo, isCopy, target, isWidth, recipeLines, copyChecked, pairChecked, checkedOf, Names, Accepted}
 use Rattle.recipes.specs.Listing.{orSlip, linesPass, tested}
+use Rattle.recipes.specs.Printer.{isNothing}
 
 -- ---- lines
 
@@ -27,7 +30,16 @@ abbrev isRead : LineRead → Bool
 isRead (Read l) = true
 isRead (Slip k) = false
 
-no-read : {k : Refusal} {m : Line} → Slip k ≡ Read m → ⊥
+-- the line that was read, or another; and whether a slip has no number
+abbrev lineIn : Line → LineRead → Line
+lineIn other (Read l) = l
+lineIn other (Slip k) = other
+
+abbrev slipIn : LineRead → Bool
+slipIn (Read l) = true
+slipIn (Slip k) = isNothing k
+
+pub no-read : {k : Refusal} {m : Line} → Slip k ≡ Read m → ⊥
 no-read e = false≢true (ap isRead e)
 
 pub checked-names : (n : ℕ) (l m : Line) → checkedOf n l ≡ Read m → Names n l
@@ -60,6 +72,60 @@ checked-names n l m e = first (leb n (l .a)) refl (takesTwo (l .verb)) refl e
           goal = rw two (leb-false n (l .a) h);
           apart = λ is same. false≢true (sym two ∙ ap takesTwo is);
         }
+
+-- a line that is read past them is read as it stands
+pub checked-same : (n : ℕ) (l m : Line) → checkedOf n l ≡ Read m → l ≡ m
+unfolding checkedOf
+checked-same n l m e = first (leb n (l .a)) (takesTwo (l .verb)) (leb n (l .b)) (isCopy (l .verb)) (eqb (l .a) (l .b)) e
+  where
+    first : (t u v c s : Bool) → cond t (Slip NoSuchNumber) (cond u (cond v (Slip NoSuchNumber) (cond c (cond s (Slip OntoItself) (Read l)) (Read l))) (Read l)) ≡ Read m → l ≡ m
+    first true u v c s e = absurd (no-read e)
+    first false true true c s e = absurd (no-read e)
+    first false true false true true e = absurd (no-read e)
+    first false true false true false e = ap (lineIn l) e
+    first false true false false s e = ap (lineIn l) e
+    first false false v c s e = ap (lineIn l) e
+
+-- and a slip is one: it has a number
+pub checked-slip : (n : ℕ) (l : Line) (k : Refusal) → checkedOf n l ≡ Slip k → isNothing k ≡ false
+unfolding checkedOf
+checked-slip n l k e = first (leb n (l .a)) (takesTwo (l .verb)) (leb n (l .b)) (isCopy (l .verb)) (eqb (l .a) (l .b)) e
+  where
+    first : (t u v c s : Bool) → cond t (Slip NoSuchNumber) (cond u (cond v (Slip NoSuchNumber) (cond c (cond s (Slip OntoItself) (Read l)) (Read l))) (Read l)) ≡ Slip k → isNothing k ≡ false
+    first true u v c s e = sym (ap slipIn e)
+    first false true true c s e = sym (ap slipIn e)
+    first false true false true true e = sym (ap slipIn e)
+    first false true false true false e = absurd (no-read (sym e))
+    first false true false false s e = absurd (no-read (sym e))
+    first false false v c s e = absurd (no-read (sym e))
+
+is-copy : (v : Verb) → isCopy v ≡ true → v ≡ Copy
+is-copy Clear e = absurd (false≢true e)
+is-copy Copy e = refl
+is-copy Add e = absurd (false≢true e)
+is-copy Sub e = absurd (false≢true e)
+is-copy Neg e = absurd (false≢true e)
+is-copy Not e = absurd (false≢true e)
+is-copy Halve e = absurd (false≢true e)
+is-copy Down e = absurd (false≢true e)
+is-copy Up e = absurd (false≢true e)
+
+-- a line that names numbers passes
+pub names-checked : (n : ℕ) (l : Line) → Names n l → checkedOf n l ≡ Read l
+unfolding checkedOf
+names-checked n l h = rw (lt-leb n (l .a) (h .source)) (second (takesTwo (l .verb)) refl)
+  where
+    third : (t : Bool) → isCopy (l .verb) ≡ t → takesTwo (l .verb) ≡ true → cond t (copyChecked l) (Read l) ≡ Read l
+    third true c e =
+        let apart : l .a ≡ l .b → ⊥ = λ same. h .apart (is-copy (l .verb) c) (rw e same) in
+        rw (ne-eqb (l .a) (l .b) apart)
+    third false c e = refl
+
+    second : (t : Bool) → takesTwo (l .verb) ≡ t → cond t (pairChecked n l) (Read l) ≡ Read l
+    second true e =
+        let goal : l .b < n = rw e at (h .goal) in
+        rw (lt-leb n (l .b) goal) (third (isCopy (l .verb)) refl e)
+    second false e = refl
 
 -- ---- recipes
 

@@ -7,4 +7,7 @@ mod Lines
 mod Words
 mod Judging
 mod Laying
+pub mod Agreeing
+pub mod Legal
 mod Printing
+pub mod Room

@@ -1,0 +1,193 @@
+-- The reader and the translator agree: a recipe that was read is translated, wherever there is room. Assumes nothing.
+--     read-sound        an accepted text's recipe has a width, at most 32 lines, and lines that name numbers
+--     read-translates   so its translation is its listing
+use Prim.Native.Nat.{ℕ, suc, _+_, _-_, _/_, _≤_, _<_}
+use mathlib.Core.Bool.{Bool, true, false, cond, _||_, false≢true}
+use mathlib.Core.List.{List, [], _∷_, _++_}
+use mathlib.Core.Path.{_≡_, refl, sym, ap, _∙_, subst}
+use native.Mathlib.Nat.{le-refl}
+use native.Mathlib.Decide.{decLe}
+use native.Mathlib.Omega.{arith}
+use borrow.Author.Tests.{le-leb, eqb-false}
+use lib.Dec.{eqb, leb}
+use lib.ListN.{length, take, length-append, length-take, replicate}
+use lib.Seq.{take-append-seam}
+use Rattle.step.specs.declared.steps.Step.{Step}
+use Rattle.recipes.specs.declared.types.Verb.{Verb}
+use Rattle.recipes.specs.declared.types.Line.{Line}
+use Rattle.recipes.specs.declared.types.Reading.{Reading}
+use Rattle.recipes.specs.declared.types.Recipe.{Recipe}
+use Rattle.recipes.specs.declared.types.Refusal.{Refusal}
+use Rattle.recipes.specs.declared.types.Refusal.the-variants.{Nothing, Syntax, TooManyLines, WidthLine}
+use Rattle.recipes.specs.declared.types.Listing.{Listing}
+use Rattle.recipes.specs.declared.reader.LineRead.{LineRead}
+use Rattle.recipes.specs.declared.reader.LineRead.the-variants.{Read, Slip}
+use Rattle.recipes.specs.declared.reader.Digit.{Digit}
+use Rattle.recipes.specs.declared.reader.Digit.the-variants.{Is, Bad}
+use Rattle.recipes.specs.declared.reader.Word.{Word}
+use Rattle.recipes.specs.declared.reader.Word.the-variants.{Known, Unknown}
+use Rattle.recipes.specs.Text.{ascii, sameBytes, before, after}
+use Rattle.recipes.specs.Recipe.{takesTwo, isWidth, recipeLines, unused, checkedOf, Names, Accepted}
+use Rattle.recipes.specs.Reader.{slots, accepted, refusedAt, verbOf, digitOf, onlyDigit, withOne, withTwo, oneOf, twoOf, wordsOf, thenChecked, lineOf, endOf, orSlip, linesOf, widthDigit, widthLine, firstOf, readOf}
+use Rattle.recipes.specs.Listing.{linesPass, listingOf, stepsOf, over, listed, translateOf}
+use Rattle.recipes.specs.Printer.{isNothing}
+use Rattle.recipes.proofs.Accepting.{no-read, checked-names, checked-same, checked-slip, names-checked}
+
+-- ---- a slip has a number
+
+abbrev HasNumber : LineRead → Type 0
+HasNumber (Slip k) = isNothing k ≡ false
+HasNumber (Read l) = Unit {0}
+
+one-number : (v : Verb) (d : Digit) → HasNumber (withOne v d)
+one-number v (Is a) = tt
+one-number v Bad = refl
+
+two-number : (v : Verb) (d e : Digit) → HasNumber (withTwo v d e)
+two-number v (Is a) (Is b) = tt
+two-number v (Is a) Bad = refl
+two-number v Bad (Is b) = refl
+two-number v Bad Bad = refl
+
+pair-number : (v : Verb) (fields : List (List ℕ)) → HasNumber (twoOf v fields)
+pair-number v [] = refl
+pair-number v (f ∷ []) = refl
+pair-number v (f ∷ g ∷ []) = two-number v (digitOf f) (digitOf g)
+pair-number v (f ∷ g ∷ h ∷ more) = refl
+
+words-number : (w : Word) (fields : List (List ℕ)) → HasNumber (wordsOf w fields)
+words-number Unknown fields = refl
+words-number (Known v) fields = go (takesTwo v)
+  where
+    go : (t : Bool) → HasNumber (cond t (twoOf v fields) (oneOf v fields))
+    go true = pair-number v fields
+    go false = one-number v (onlyDigit fields)
+
+checked-number : (n : ℕ) (l : Line) → HasNumber (checkedOf n l)
+checked-number n l = go (checkedOf n l) refl
+  where
+    go : (c : LineRead) → checkedOf n l ≡ c → HasNumber c
+    go (Slip k) e = checked-slip n l k e
+    go (Read m) e = tt
+
+then-number : (n : ℕ) (c : LineRead) → HasNumber c → HasNumber (thenChecked n c)
+then-number n (Slip k) h = h
+then-number n (Read l) h = checked-number n l
+
+line-number : (n : ℕ) (row : List ℕ) → HasNumber (lineOf n row)
+unfolding lineOf
+line-number n row = then-number n (wordsOf (verbOf (before 9 row)) (after 9 row)) (words-number (verbOf (before 9 row)) (after 9 row))
+
+-- ---- a line that is read names numbers
+
+then-names : (n : ℕ) (c : LineRead) (m : Line) → thenChecked n c ≡ Read m → Names n m
+then-names n (Slip k) m e = absurd (no-read e)
+then-names n (Read l) m e = subst (Names n) (checked-same n l m e) (checked-names n l m e)
+
+line-names : (n : ℕ) (row : List ℕ) (m : Line) → lineOf n row ≡ Read m → Names n m
+unfolding lineOf
+line-names n row m e = then-names n (wordsOf (verbOf (before 9 row)) (after 9 row)) m e
+
+-- ---- a reading
+
+-- what an accepted reading's recipe has
+pub record Good (r : Recipe) : Type 0 where
+  pub width : isWidth (r .width) ≡ true
+  pub few : r .count ≤ 32
+  pub lines : Accepted (r .width) (recipeLines r)
+
+abbrev Sound : Reading → Type 0
+Sound r = isNothing (r .refusal) ≡ true → Good (r .recipe)
+
+refused-sound : (k : Refusal) (line : ℕ) → isNothing k ≡ false → Sound (refusedAt k line)
+refused-sound k line e h = absurd (false≢true (sym e ∙ h))
+
+snoc-accepted : (w : ℕ) (ls : List Line) (l : Line) → Accepted w ls → Names (8 / w) l → Accepted w (ls ++ (l ∷ []))
+snoc-accepted w [] l a h = (h, tt)
+snoc-accepted w (m ∷ ls) l a h = (a .0, snoc-accepted w ls l (a .1) h)
+
+lines-sound : (w : ℕ) (ls : List Line) (row : List ℕ) (more : List (List ℕ)) → isWidth w ≡ true → length ls ≤ 32 → Accepted w ls → Sound (linesOf w ls row more)
+unfolding linesOf
+lines-sound w ls [] [] i h a =
+    λ e. record { width = i; few = h; lines = subst (Accepted w) (sym (take-append-seam ls (replicate (32 - length ls) unused))) a }
+lines-sound w ls (x ∷ xs) [] i h a = go (eqb (length ls) 32)
+  where
+    go : (t : Bool) → Sound (cond t (refusedAt TooManyLines (length ls + 2)) (refusedAt Syntax (length ls + 2)))
+    go true = refused-sound TooManyLines (length ls + 2) refl
+    go false = refused-sound Syntax (length ls + 2) refl
+lines-sound w ls row (next ∷ more) i h a =
+    full (eqb (length ls) 32) refl (λ l k n. lines-sound w (ls ++ (l ∷ [])) next more i k (snoc-accepted w ls l a n))
+  where
+    by : (c : LineRead) → lineOf (8 / w) row ≡ c → HasNumber c → length ls < 32
+        → ((l : Line) → length (ls ++ (l ∷ [])) ≤ 32 → Names (8 / w) l → Sound (linesOf w (ls ++ (l ∷ [])) next more))
+        → Sound (orSlip c (length ls + 2) (λ l. linesOf w (ls ++ (l ∷ [])) next more))
+    by (Slip k) e s lt go = refused-sound k (length ls + 2) s
+    by (Read l) e s lt go = go l (rw length-append (omega arith)) (line-names (8 / w) row l e)
+
+    full : (t : Bool) → eqb (length ls) 32 ≡ t → ((l : Line) → length (ls ++ (l ∷ [])) ≤ 32 → Names (8 / w) l → Sound (linesOf w (ls ++ (l ∷ [])) next more))
+        → Sound (cond t (refusedAt TooManyLines (length ls + 2)) (orSlip (lineOf (8 / w) row) (length ls + 2) (λ l. linesOf w (ls ++ (l ∷ [])) next more)))
+    full true e go = refused-sound TooManyLines (length ls + 2) refl
+    full false e go =
+        let ne = eqb-false (length ls) 32 e in
+        by (lineOf (8 / w) row) refl (line-number (8 / w) row) (strictly (length ls) 32 h ne) go
+      where
+        strictly : (m n : ℕ) → m ≤ n → (m ≡ n → ⊥) → m < n
+        strictly m n l ne = choose (decLe n m)
+          where
+            choose : Dec (n ≤ m) → m < n
+            choose (yes k) = absurd (ne (omega arith))
+            choose (no k) = omega arith
+
+-- the width line
+abbrev chosen : (one two four : Bool) → ℕ
+chosen one two four = cond one 1 (cond two 2 (cond four 4 0))
+
+digit-width : (d : Digit) → (widthDigit d ≡ 0 → ⊥) → isWidth (widthDigit d) ≡ true
+digit-width Bad n = absurd (n refl)
+digit-width (Is d) n = go (eqb d 1) (eqb d 2) (eqb d 4) n
+  where
+    go : (s t u : Bool) → (chosen s t u ≡ 0 → ⊥) → isWidth (chosen s t u) ≡ true
+    go true t u n = refl
+    go false true u n = refl
+    go false false true n = refl
+    go false false false n = absurd (n refl)
+
+line-width : (row : List ℕ) → (widthLine row ≡ 0 → ⊥) → isWidth (widthLine row) ≡ true
+unfolding widthLine
+line-width row n = go (sameBytes (before 9 row) (ascii "width")) n
+  where
+    go : (t : Bool) → (cond t (widthDigit (onlyDigit (after 9 row))) 0 ≡ 0 → ⊥) → isWidth (cond t (widthDigit (onlyDigit (after 9 row))) 0) ≡ true
+    go true n = digit-width (onlyDigit (after 9 row)) n
+    go false n = absurd (n refl)
+
+first-sound : (row : List ℕ) (more : List (List ℕ)) → Sound (firstOf row more)
+first-sound row [] = refused-sound WidthLine 1 refl
+first-sound row (next ∷ more) = go (eqb (widthLine row) 0) refl
+  where
+    go : (t : Bool) → eqb (widthLine row) 0 ≡ t → Sound (cond t (refusedAt WidthLine 1) (linesOf (widthLine row) [] next more))
+    go true e = refused-sound WidthLine 1 refl
+    go false e = lines-sound (widthLine row) [] next more (line-width row (eqb-false (widthLine row) 0 e)) (omega arith) tt
+
+pub read-sound : (text : List ℕ) → isNothing (readOf text .refusal) ≡ true → Good (readOf text .recipe)
+unfolding readOf
+read-sound text = first-sound (before 10 text) (after 10 text)
+
+-- ---- and its translation
+
+passes : {R : Type 0} (refuse : Refusal → ℕ → R) (w line : ℕ) (ls : List Line) (go : R) → Accepted w ls → linesPass refuse (8 / w) line ls go ≡ go
+unfolding linesPass
+passes refuse w line [] go a = refl
+passes refuse w line (l ∷ ls) go a = rw (names-checked (8 / w) l (a .0)) (passes refuse w (suc line) ls go (a .1))
+
+pub good-translates : (r : Recipe) (slots : List Step) → Good r → stepsOf (r .width) (recipeLines r) ≤ length slots
+    → translateOf r slots ≡ listed Nothing 0 (stepsOf (r .width) (recipeLines r)) (over (listingOf (r .width) (recipeLines r)) slots)
+unfolding translateOf
+good-translates r slots g h =
+    rw (g .width, le-leb (r .count) 32 (g .few), le-leb (stepsOf (r .width) (recipeLines r)) (length slots) h)
+    (passes (λ k line. listed k line 0 slots) (r .width) 2 (recipeLines r) _ (g .lines))
+
+pub read-translates : (text : List ℕ) (slots : List Step) → isNothing (readOf text .refusal) ≡ true
+    → let r = readOf text .recipe in
+    stepsOf (r .width) (recipeLines r) ≤ length slots
+    → translateOf r slots ≡ listed Nothing 0 (stepsOf (r .width) (recipeLines r)) (over (listingOf (r .width) (recipeLines r)) slots)
+read-translates text slots e h = good-translates (readOf text .recipe) slots (read-sound text e) h

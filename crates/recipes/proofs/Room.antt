@@ -1,0 +1,210 @@
+-- How long printed texts are: the program's buffer of 20,480 bytes has room for any of them, whatever steps stand in a listing. Assumes nothing.
+--     answer-short    the program's answer to any text
+--     whole-written   so what is written is the whole text
+use Prim.Native.Nat.{ℕ, zero, suc, _+_, _*_, _/_, _%_, _≤_, _<_, min, max}
+use mathlib.Core.Bool.{Bool, true, false, cond}
+use mathlib.Core.List.{List, [], _∷_, _++_}
+use mathlib.Core.Path.{_≡_, refl, sym, ap, _∙_}
+use native.Mathlib.Omega.{arith}
+use lib.Dec.{ltb}
+use lib.ListN.{length, take, drop, length-append, length-take, length-replicate}
+use lib.Seq.{sets, sets-eq, take-at}
+use Rattle.io.specs.Counts.{Counts}
+use Rattle.alu.specs.declared.types.Size.{Size}
+use Rattle.alu.specs.declared.types.Size.the-variants.{Byte, Word, Long}
+use Rattle.alu.specs.declared.shift_rotate.ShiftOp.{ShiftOp}
+use Rattle.alu.specs.declared.shift_rotate.ShiftOp.the-variants.{Asl, Asr, Lsl, Lsr, Rol, Ror, Roxl, Roxr}
+use Rattle.alu.specs.declared.bit_manip.BitOp.{BitOp}
+use Rattle.alu.specs.declared.bit_manip.BitOp.the-variants.{Btst, Bset, Bclr, Bchg}
+use Rattle.step.specs.declared.steps.TwoOp.{TwoOp}
+use Rattle.step.specs.declared.steps.TwoOp.the-variants.{Add, Sub, Cmp, Addx, Subx}
+use Rattle.step.specs.declared.steps.AddressOp.{AddressOp}
+use Rattle.step.specs.declared.steps.AddressOp.the-variants.{Adda, Suba, Cmpa}
+use Rattle.step.specs.declared.steps.QuickOp.{QuickOp}
+use Rattle.step.specs.declared.steps.QuickOp.the-variants.{Addq, Subq}
+use Rattle.step.specs.declared.steps.OneOp.{OneOp}
+use Rattle.step.specs.declared.steps.OneOp.the-variants.{Clr, Neg, Negx, Not, Ext}
+use Rattle.step.specs.declared.steps.Register.{Register}
+use Rattle.step.specs.declared.steps.Register.the-variants as Register
+use Rattle.step.specs.declared.steps.Count.{Count}
+use Rattle.step.specs.declared.steps.Count.the-variants as Count
+use Rattle.step.specs.declared.steps.Form.{Form}
+use Rattle.step.specs.declared.steps.Form.the-variants.{Two, Address, Quick, One, Shift, Bit, Chk}
+use Rattle.step.specs.declared.steps.Step.{Step}
+use Rattle.recipes.specs.declared.types.Recipe.{Recipe}
+use Rattle.recipes.specs.declared.types.Refusal.{Refusal}
+use Rattle.recipes.specs.declared.types.Listing.{Listing}
+use Rattle.recipes.specs.declared.types.Reading.{Reading}
+use Rattle.recipes.specs.Text.{Written, reach, written, writing, decimalIn, decimalOf}
+use Rattle.recipes.specs.Recipe.{numberOf}
+use Rattle.recipes.specs.Reader.{readOf}
+use Rattle.recipes.specs.Listing.{translateOf, blanks}
+use Rattle.recipes.specs.Printer.{twoName, addressName, quickName, oneName, shiftName, bitName, operationText, sizeText, registerText, countText, sourceText, destinationText, stepText, stepsText, clocksOf, listingText, refusalText, isNothing, listingPrinted, printedOf, readingPrinted, answerOf}
+use Rattle.recipes.specs.Making.{Wrote}
+use Rattle.recipes.proofs.Settling.{blanks-count}
+use Rattle.recipes.proofs.Writing.{counts}
+
+-- ---- parts of a line
+
+decimal-short : (f n : ℕ) → length (decimalIn f n) ≤ f
+unfolding decimalIn
+decimal-short zero n = omega arith
+decimal-short (suc f) n = go (ltb n 10) (decimal-short f (n / 10))
+  where
+    go : (t : Bool) → length (decimalIn f (n / 10)) ≤ f → length (cond t ((48 + n) ∷ []) (decimalIn f (n / 10) ++ ((48 + n % 10) ∷ []))) ≤ suc f
+    go true h = omega arith
+    go false h = rw length-append (omega arith)
+
+two-short : (op : TwoOp) → length (twoName op) ≤ 4
+two-short Add = omega arith
+two-short Sub = omega arith
+two-short Cmp = omega arith
+two-short Addx = omega arith
+two-short Subx = omega arith
+
+address-short : (op : AddressOp) → length (addressName op) ≤ 4
+address-short Adda = omega arith
+address-short Suba = omega arith
+address-short Cmpa = omega arith
+
+quick-short : (op : QuickOp) → length (quickName op) ≤ 4
+quick-short Addq = omega arith
+quick-short Subq = omega arith
+
+one-short : (op : OneOp) → length (oneName op) ≤ 4
+one-short Clr = omega arith
+one-short Neg = omega arith
+one-short Negx = omega arith
+one-short Not = omega arith
+one-short Ext = omega arith
+
+shift-short : (op : ShiftOp) → length (shiftName op) ≤ 4
+shift-short Asl = omega arith
+shift-short Asr = omega arith
+shift-short Lsl = omega arith
+shift-short Lsr = omega arith
+shift-short Rol = omega arith
+shift-short Ror = omega arith
+shift-short Roxl = omega arith
+shift-short Roxr = omega arith
+
+bit-short : (op : BitOp) → length (bitName op) ≤ 4
+bit-short Btst = omega arith
+bit-short Bset = omega arith
+bit-short Bclr = omega arith
+bit-short Bchg = omega arith
+
+operation-short : (f : Form) → length (operationText f) ≤ 4
+operation-short (Two op p q) = two-short op
+operation-short (Address op p q) = address-short op
+operation-short (Quick op k q) = quick-short op
+operation-short (One op q) = one-short op
+operation-short (Shift op k q) = shift-short op
+operation-short (Bit op k q) = bit-short op
+operation-short (Chk p q) = omega arith
+
+size-short : (s : Size) → length (sizeText s) ≤ 1
+size-short Byte = omega arith
+size-short Word = omega arith
+size-short Long = omega arith
+
+-- a mark and a number
+marked-short : (mark n : ℕ) → length (mark ∷ decimalOf n) ≤ 21
+marked-short mark n = let h = decimal-short 20 n in omega arith
+
+register-short : (r : Register) → length (registerText r) ≤ 21
+register-short (Register.Data r) = marked-short 68 (r .0)
+register-short (Register.Address r) = marked-short 65 (r .0)
+
+count-short : (k : Count) → length (countText k) ≤ 21
+count-short (Count.Small k) = marked-short 35 k
+count-short (Count.Data r) = marked-short 68 (r .0)
+
+source-short : (f : Form) → length (sourceText f) ≤ 21
+source-short (Two op p q) = marked-short 68 (p .0)
+source-short (Address op p q) = register-short p
+source-short (Quick op k q) = marked-short 35 k
+source-short (One op q) = omega arith
+source-short (Shift op k q) = count-short k
+source-short (Bit op k q) = count-short k
+source-short (Chk p q) = marked-short 68 (p .0)
+
+destination-short : (f : Form) → length (destinationText f) ≤ 21
+destination-short (Two op p q) = marked-short 68 (q .0)
+destination-short (Address op p q) = marked-short 65 (q .0)
+destination-short (Quick op k q) = register-short q
+destination-short (One op q) = marked-short 68 (q .0)
+destination-short (Shift op k q) = marked-short 68 (q .0)
+destination-short (Bit op k q) = marked-short 68 (q .0)
+destination-short (Chk p q) = marked-short 68 (q .0)
+
+-- ---- lines and texts
+
+step-short : (p : ℕ) (k : Step) → length (stepText p k) ≤ 72
+unfolding stepText
+step-short p k =
+    let a = decimal-short 20 p in
+    let b = operation-short (k .form) in
+    let c = size-short (k .size) in
+    let d = source-short (k .form) in
+    let e = destination-short (k .form) in
+    rw (length-append, length-append, length-append, length-append, length-append, length-append, length-append, length-append, length-append) (omega arith)
+
+steps-short : (p : ℕ) (ks : List Step) → length (stepsText p ks) ≤ 72 * length ks
+unfolding stepsText
+steps-short p [] = omega arith
+steps-short p (k ∷ ks) = let a = step-short p k in let b = steps-short (suc p) ks in rw length-append (omega arith)
+
+listing-short : (w : ℕ) (ks : List Step) → length (listingText w ks) ≤ 76 + 72 * length ks
+unfolding listingText
+listing-short w ks =
+    let a = marked-short 9 w in
+    let b = marked-short 9 (length ks) in
+    let c = steps-short 0 ks in
+    let d = marked-short 9 (clocksOf ks) in
+    rw (length-append, length-append, length-append, length-append, length-append, length-append, length-append) (omega arith)
+
+refusal-short : (k : Refusal) (line : ℕ) → length (refusalText k line) ≤ 50
+unfolding refusalText
+refusal-short k line =
+    let a = marked-short 9 (numberOf k) in
+    let b = marked-short 9 line in
+    rw (length-append, length-append, length-append) (omega arith)
+
+printed-short : (r : Recipe) → length (printedOf r) ≤ 20480
+unfolding printedOf
+printed-short r = go (isNothing (translateOf r blanks .refusal))
+  where
+    go : (t : Bool)
+        → length (cond t (listingText (r .width) (take (translateOf r blanks .count) (translateOf r blanks .steps))) (refusalText (translateOf r blanks .refusal) (translateOf r blanks .line))) ≤ 20480
+    go true =
+        let few = blanks-count r in
+        let many = length-take (translateOf r blanks .count) (translateOf r blanks .steps) in
+        let short = listing-short (r .width) (take (translateOf r blanks .count) (translateOf r blanks .steps)) in
+        omega arith
+    go false = let short = refusal-short (translateOf r blanks .refusal) (translateOf r blanks .line) in omega arith
+
+pub answer-short : (text : List ℕ) → length (answerOf text) ≤ 20480
+unfolding answerOf
+answer-short text = go (isNothing (readOf text .refusal))
+  where
+    go : (t : Bool) → length (cond t (printedOf (readOf text .recipe)) (refusalText (readOf text .refusal) (readOf text .line))) ≤ 20480
+    go true = printed-short (readOf text .recipe)
+    go false = let short = refusal-short (readOf text .refusal) (readOf text .line) in omega arith
+
+-- ---- what is written
+
+-- what was written from 0 on is a count of the slice
+pub counted : (o s p : List ℕ) (r : ℕ) → written p r ≡ writing o 0 s → Counts r p
+unfolding writing
+counted o s p r e =
+    let v : Wrote o 0 s p r = record { bytes = ap (λ (w : Written). w .bytes) e; next = ap (λ (w : Written). w .next) e } in
+    counts v
+
+pub whole-written : (o s p : List ℕ) (r : ℕ) → written p r ≡ writing o 0 s → length s ≤ length o → take r p ≡ s
+unfolding writing
+whole-written o s p r e h =
+    let bytes : p ≡ sets o 0 s = ap (λ (w : Written). w .bytes) e in
+    let next : r ≡ reach 0 (length s) (length o) = ap (λ (w : Written). w .next) e in
+    let all : r ≡ length s = omega arith in
+    rw (bytes, sets-eq s o 0 (omega arith)) (take-at s (drop (0 + length s) o) r (sym all))
