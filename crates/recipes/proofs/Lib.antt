@@ -11,3 +11,4 @@ pub mod Agreeing
 pub mod Legal
 mod Printing
 pub mod Room
+pub mod Determined
