@@ -1,8 +1,11 @@
-// Document 01's cases that are run and compared: one step, and runs. Each case is a line; the file `stdout` has them all
+// Document 01's cases that are run and compared: one step, runs, and recipes. Each case is a line; the file `stdout` has them all
 // as they ought to be.
+mod lent;
+mod rows;
 mod runs;
 mod steps;
 mod tell;
+mod texts;
 
 use libc::STDOUT_FILENO;
 
@@ -13,6 +16,8 @@ fn main() {
     };
     let t = steps::all(t);
     let t = runs::all(t);
+    let t = texts::all(t);
+    let t = rows::all(t);
     io::print_decimal(STDOUT_FILENO, t.cases);
     io::write_all(STDOUT_FILENO, b" cases, ");
     io::print_decimal(STDOUT_FILENO, t.failed);
