@@ -21,7 +21,7 @@ use Rattle.recipes.specs.declared.types.Refusal.the-variants.{NoSuchNumb
 use Rattle.recipes.specs.declared.reader.LineRead.{LineRead}
 use Rattle.recipes.specs.declared.reader.LineRead.the-variants.{Read, Slip}
 use Rattle.recipes.specs.Recipe.{takesTwo, isCopy, target, isWidth, recipeLines, copyChecked, pairChecked, checkedOf, Names, Accepted}
-use Rattle.recipes.specs.Listing.{orSlip, linesPass, tested}
+use Rattle.recipes.specs.Listing.{unlessSlip, linesPass, tested}
 use Rattle.recipes.specs.Printer.{isNothing}
 
 -- ---- lines
@@ -149,7 +149,7 @@ module _ {R S : Type 0} (P : R → S → Type 0) (refuse : Refusal → ℕ → R
       by (checkedOf (8 / w) l) (λ m e. lines-agree w (suc line) ls go gone (λ more. h (checked-names (8 / w) l m e, more)))
     where
       by : (c : LineRead) → ((m : Line) → c ≡ Read m → P (linesPass refuse (8 / w) (suc line) ls go) (linesPass reject (8 / w) (suc line) ls gone))
-          → P (orSlip refuse c line (linesPass refuse (8 / w) (suc line) ls go)) (orSlip reject c line (linesPass reject (8 / w) (suc line) ls gone))
+          → P (unlessSlip refuse c line (linesPass refuse (8 / w) (suc line) ls go)) (unlessSlip reject c line (linesPass reject (8 / w) (suc line) ls gone))
       by (Slip k) more = alike k line
       by (Read m) more = more m refl
 

@@ -24,11 +24,11 @@ use Rattle.recipes.specs.declared.reader.LineRead.{LineRead}
 use Rattle.recipes.specs.declared.reader.LineRead.the-variants.{Read, Slip}
 use Rattle.recipes.specs.declared.reader.Digit.{Digit}
 use Rattle.recipes.specs.declared.reader.Digit.the-variants.{Is, Bad}
-use Rattle.recipes.specs.declared.reader.Word.{Word}
-use Rattle.recipes.specs.declared.reader.Word.the-variants.{Known, Unknown}
+use Rattle.recipes.specs.declared.reader.VerbRead.{VerbRead}
+use Rattle.recipes.specs.declared.reader.VerbRead.the-variants.{Known, Unknown}
 use Rattle.recipes.specs.Text.{ascii, sameBytes, before, after}
 use Rattle.recipes.specs.Recipe.{takesTwo, isWidth, recipeLines, unused, checkedOf, Names, Accepted}
-use Rattle.recipes.specs.Reader.{slots, accepted, refusedAt, verbOf, digitOf, onlyDigit, withOne, withTwo, oneOf, twoOf, wordsOf, thenChecked, lineOf, endOf, orSlip, linesOf, widthDigit, widthLine, firstOf, readOf}
+use Rattle.recipes.specs.Reader.{padded, accepted, refusedAt, verbOf, digitOf, onlyDigit, withOne, withTwo, oneOf, twoOf, fieldsOf, thenChecked, lineOf, endOf, orSlip, linesOf, widthDigit, widthLine, fromFirst, readOf}
 use Rattle.recipes.specs.Listing.{linesPass, listingOf, stepsOf, over, listed, translateOf}
 use Rattle.recipes.specs.Printer.{isNothing}
 use Rattle.recipes.proofs.Accepting.{no-read, checked-names, checked-same, checked-slip, names-checked}
@@ -55,7 +55,7 @@ pair-number v (f ∷ []) = refl
 pair-number v (f ∷ g ∷ []) = two-number v (digitOf f) (digitOf g)
 pair-number v (f ∷ g ∷ h ∷ more) = refl
 
-words-number : (w : Word) (fields : List (List ℕ)) → HasNumber (wordsOf w fields)
+words-number : (w : VerbRead) (fields : List (List ℕ)) → HasNumber (fieldsOf w fields)
 words-number Unknown fields = refl
 words-number (Known v) fields = go (takesTwo v)
   where
@@ -76,7 +76,7 @@ then-number n (Read l) h = checked-number n l
 
 line-number : (n : ℕ) (row : List ℕ) → HasNumber (lineOf n row)
 unfolding lineOf
-line-number n row = then-number n (wordsOf (verbOf (before 9 row)) (after 9 row)) (words-number (verbOf (before 9 row)) (after 9 row))
+line-number n row = then-number n (fieldsOf (verbOf (before 9 row)) (after 9 row)) (words-number (verbOf (before 9 row)) (after 9 row))
 
 -- ---- a line that is read names numbers
 
@@ -86,7 +86,7 @@ then-names n (Read l) m e = subst (Names n) (checked-same n l m e) (checked-name
 
 line-names : (n : ℕ) (row : List ℕ) (m : Line) → lineOf n row ≡ Read m → Names n m
 unfolding lineOf
-line-names n row m e = then-names n (wordsOf (verbOf (before 9 row)) (after 9 row)) m e
+line-names n row m e = then-names n (fieldsOf (verbOf (before 9 row)) (after 9 row)) m e
 
 -- ---- a reading
 
@@ -160,7 +160,7 @@ line-width row n = go (sameBytes (before 9 row) (ascii "width")) n
     go true n = digit-width (onlyDigit (after 9 row)) n
     go false n = absurd (n refl)
 
-first-sound : (row : List ℕ) (more : List (List ℕ)) → Sound (firstOf row more)
+first-sound : (row : List ℕ) (more : List (List ℕ)) → Sound (fromFirst row more)
 first-sound row [] = refused-sound WidthLine 1 refl
 first-sound row (next ∷ more) = go (eqb (widthLine row) 0) refl
   where

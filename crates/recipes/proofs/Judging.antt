@@ -11,14 +11,14 @@ use Rattle.recipes.specs.declared.types.Refusal.the-variants.{Nothing}
 use Rattle.recipes.specs.declared.reader.LineRead.{LineRead}
 use Rattle.recipes.specs.declared.reader.LineRead.the-variants.{Read, Slip}
 use Rattle.recipes.specs.Recipe.{unused, checkedOf}
-use Rattle.recipes.specs.Listing.{orSlip, linesPass, stepsAt, stepsOf}
+use Rattle.recipes.specs.Listing.{unlessSlip, linesPass, stepsAt, stepsOf}
 use Rattle.recipes.specs.Making.{told, refused, judgeLines}
 use Rattle.recipes.proofs.Steps.{steps-more, steps-at-most}
 
 module _ {R : Type 0} (refuse : Refusal → ℕ → R) (n : ℕ) where
   -- the lines from k on
   pass-on : (line : ℕ) (ls : List Line) (k : ℕ) (go : R) → k < length ls
-      → linesPass refuse n line (drop k ls) go ≡ orSlip refuse (checkedOf n (getD ls k unused)) line (linesPass refuse n (suc line) (drop (suc k) ls) go)
+      → linesPass refuse n line (drop k ls) go ≡ unlessSlip refuse (checkedOf n (getD ls k unused)) line (linesPass refuse n (suc line) (drop (suc k) ls) go)
   unfolding linesPass
   pass-on line ls k go h = rw (drop-cons ls k unused h)
 
@@ -41,11 +41,11 @@ passed-none w count lines h = record { there = h; within = omega arith; counted 
 module _ (w count : ℕ) (lines : List Line) (steps k : ℕ) (s : Passed w count lines steps k) where
   -- the next line
   turn : k < count → judgeLines w (take count lines)
-      ≡ orSlip refused (checkedOf (8 / w) (getD lines k unused)) (k + 2) (linesPass refused (8 / w) (suc (k + 2)) (drop (suc k) (take count lines)) (told Nothing 0 (stepsOf w (take count lines))))
+      ≡ unlessSlip refused (checkedOf (8 / w) (getD lines k unused)) (k + 2) (linesPass refused (8 / w) (suc (k + 2)) (drop (suc k) (take count lines)) (told Nothing 0 (stepsOf w (take count lines))))
   turn h =
       let long : length (take count lines) ≡ count = length-take-le count lines (s .there) in
       s .rest ∙ pass-on refused (8 / w) (k + 2) (take count lines) k (told Nothing 0 (stepsOf w (take count lines))) (omega arith)
-      ∙ ap (λ (l : Line). orSlip refused (checkedOf (8 / w) l) (k + 2) (linesPass refused (8 / w) (suc (k + 2)) (drop (suc k) (take count lines)) (told Nothing 0 (stepsOf w (take count lines)))))
+      ∙ ap (λ (l : Line). unlessSlip refused (checkedOf (8 / w) l) (k + 2) (linesPass refused (8 / w) (suc (k + 2)) (drop (suc k) (take count lines)) (told Nothing 0 (stepsOf w (take count lines)))))
       (getD-take count lines k unused h)
 
   pub passed-slip : (r : Refusal) → k < count → checkedOf (8 / w) (getD lines k unused) ≡ Slip r → refused r (k + 2) ≡ judgeLines w (take count lines)

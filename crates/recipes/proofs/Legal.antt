@@ -8,14 +8,15 @@ use mathlib.Core.List.{List, [], _∷_, _++_}
 use Prim.Native.Nat.{ℕ, zero, suc, _+_, _*_, _/_, _≤_, _<_}
 use native.Mathlib.Omega.{arith}
 use Rattle.step.specs.declared.registers.State.{State}
+use Rattle.step.specs.declared.steps.OneOp.the-variants.{Clr}
 use Rattle.step.specs.declared.steps.Step.{Step}
 use Rattle.step.specs.Perform.{performOf}
 use Rattle.step.proofs.Promises.{Legal, performs}
 use Rattle.recipes.specs.declared.types.Verb.{Verb}
 use Rattle.recipes.specs.declared.types.Verb.the-variants.{Clear, Copy, Add, Sub, Neg, Not, Halve, Down, Up}
 use Rattle.recipes.specs.declared.types.Line.{Line}
-use Rattle.recipes.specs.Recipe.{target, Names, Accepted}
-use Rattle.recipes.specs.Listing.{firstOf, nextOf, highestFirst, upward, downward, rising, falling, lineSteps, listingOf}
+use Rattle.recipes.specs.Recipe.{isCopy, target, Names, Accepted}
+use Rattle.recipes.specs.Listing.{one, firstStep, otherStep, withClr, highestFirst, risingRest, fallingRest, rising, falling, lineSteps, listingOf}
 use Rattle.recipes.specs.Printer.{atRest, figureOf}
 use Rattle.recipes.proofs.Words.{number-fits}
 
@@ -27,49 +28,56 @@ both-legal : (ks ls : List Step) → All Legal ks → All Legal ls → All Legal
 both-legal [] ls h t = t
 both-legal (k ∷ ks) ls h t = (h .0, both-legal ks ls (h .1) t)
 
-first-legal : (v : Verb) (p q : ℕ) → p < 8 → q < 8 → All Legal (firstOf v p q)
-first-legal Clear p q a b = ((refl, (tt, b)), tt)
-first-legal Copy p q a b = ((refl, (tt, b)), ((refl, (tt, a, b)), tt))
-first-legal Add p q a b = ((refl, (tt, a, b)), tt)
-first-legal Sub p q a b = ((refl, (tt, a, b)), tt)
-first-legal Neg p q a b = ((refl, (tt, b)), tt)
-first-legal Not p q a b = ((refl, (tt, b)), tt)
-first-legal Halve p q a b = ((refl, (tt, refl, b)), tt)
-first-legal Down p q a b = ((refl, (tt, refl, b)), tt)
-first-legal Up p q a b = ((refl, (tt, refl, b)), tt)
+first-legal : (v : Verb) (p q : ℕ) → p < 8 → q < 8 → Legal (firstStep v p q)
+first-legal Clear p q a b = (refl, (tt, b))
+first-legal Copy p q a b = (refl, (tt, a, b))
+first-legal Add p q a b = (refl, (tt, a, b))
+first-legal Sub p q a b = (refl, (tt, a, b))
+first-legal Neg p q a b = (refl, (tt, b))
+first-legal Not p q a b = (refl, (tt, b))
+first-legal Halve p q a b = (refl, (tt, refl, b))
+first-legal Down p q a b = (refl, (tt, refl, b))
+first-legal Up p q a b = (refl, (tt, refl, b))
 
-next-legal : (v : Verb) (p q : ℕ) → p < 8 → q < 8 → All Legal (nextOf v p q)
-next-legal Clear p q a b = ((refl, (tt, b)), tt)
-next-legal Copy p q a b = ((refl, (tt, b)), ((refl, (tt, a, b)), tt))
-next-legal Add p q a b = ((refl, (tt, a, b)), tt)
-next-legal Sub p q a b = ((refl, (tt, a, b)), tt)
-next-legal Neg p q a b = ((refl, (tt, b)), tt)
-next-legal Not p q a b = ((refl, (tt, b)), tt)
-next-legal Halve p q a b = ((refl, (tt, refl, b)), tt)
-next-legal Down p q a b = ((refl, (tt, refl, b)), tt)
-next-legal Up p q a b = ((refl, (tt, refl, b)), tt)
+other-legal : (v : Verb) (p q : ℕ) → p < 8 → q < 8 → Legal (otherStep v p q)
+other-legal Clear p q a b = (refl, (tt, b))
+other-legal Copy p q a b = (refl, (tt, a, b))
+other-legal Add p q a b = (refl, (tt, a, b))
+other-legal Sub p q a b = (refl, (tt, a, b))
+other-legal Neg p q a b = (refl, (tt, b))
+other-legal Not p q a b = (refl, (tt, b))
+other-legal Halve p q a b = (refl, (tt, refl, b))
+other-legal Down p q a b = (refl, (tt, refl, b))
+other-legal Up p q a b = (refl, (tt, refl, b))
 
-upward-legal : (v : Verb) (n p q : ℕ) → p + n ≤ 8 → q + n ≤ 8 → All Legal (upward v n p q)
-unfolding upward
-upward-legal v zero p q a b = tt
-upward-legal v (suc n) p q a b =
-    both-legal (nextOf v p q) _ (next-legal v p q (omega arith) (omega arith)) (upward-legal v n (suc p) (suc q) (omega arith) (omega arith))
+there-legal : (v : Verb) (q : ℕ) (k : Step) → q < 8 → Legal k → All Legal (withClr v q k)
+there-legal v q k b h = go (isCopy v)
+  where
+    go : (t : Bool) → All Legal (cond t (one Clr q ∷ k ∷ []) (k ∷ []))
+    go true = ((refl, (tt, b)), (h, tt))
+    go false = (h, tt)
 
-downward-legal : (v : Verb) (n p q : ℕ) → p + n ≤ 8 → q + n ≤ 8 → All Legal (downward v n p q)
-unfolding downward
-downward-legal v zero p q a b = tt
-downward-legal v (suc n) p q a b =
-    both-legal (nextOf v (p + n) (q + n)) _ (next-legal v (p + n) (q + n) (omega arith) (omega arith)) (downward-legal v n p q (omega arith) (omega arith))
+risingRest-legal : (v : Verb) (n p q : ℕ) → p + n ≤ 8 → q + n ≤ 8 → All Legal (risingRest v n p q)
+unfolding risingRest
+risingRest-legal v zero p q a b = tt
+risingRest-legal v (suc n) p q a b =
+    both-legal (withClr v q (otherStep v p q)) _ (there-legal v q (otherStep v p q) (omega arith) (other-legal v p q (omega arith) (omega arith))) (risingRest-legal v n (suc p) (suc q) (omega arith) (omega arith))
+
+fallingRest-legal : (v : Verb) (n p q : ℕ) → p + n ≤ 8 → q + n ≤ 8 → All Legal (fallingRest v n p q)
+unfolding fallingRest
+fallingRest-legal v zero p q a b = tt
+fallingRest-legal v (suc n) p q a b =
+    both-legal (withClr v (q + n) (otherStep v (p + n) (q + n))) _ (there-legal v (q + n) (otherStep v (p + n) (q + n)) (omega arith) (other-legal v (p + n) (q + n) (omega arith) (omega arith))) (fallingRest-legal v n p q (omega arith) (omega arith))
 
 rising-legal : (v : Verb) (n p q : ℕ) → p + n ≤ 8 → q + n ≤ 8 → All Legal (rising v n p q)
 rising-legal v zero p q a b = tt
 rising-legal v (suc n) p q a b =
-    both-legal (firstOf v p q) _ (first-legal v p q (omega arith) (omega arith)) (upward-legal v n (suc p) (suc q) (omega arith) (omega arith))
+    both-legal (withClr v q (firstStep v p q)) _ (there-legal v q (firstStep v p q) (omega arith) (first-legal v p q (omega arith) (omega arith))) (risingRest-legal v n (suc p) (suc q) (omega arith) (omega arith))
 
 falling-legal : (v : Verb) (n p q : ℕ) → p + n ≤ 8 → q + n ≤ 8 → All Legal (falling v n p q)
 falling-legal v zero p q a b = tt
 falling-legal v (suc n) p q a b =
-    both-legal (firstOf v (p + n) (q + n)) _ (first-legal v (p + n) (q + n) (omega arith) (omega arith)) (downward-legal v n p q (omega arith) (omega arith))
+    both-legal (withClr v (q + n) (firstStep v (p + n) (q + n))) _ (there-legal v (q + n) (firstStep v (p + n) (q + n)) (omega arith) (first-legal v (p + n) (q + n) (omega arith) (omega arith))) (fallingRest-legal v n p q (omega arith) (omega arith))
 
 pub line-legal : (w : ℕ) (l : Line) → Names (8 / w) l → All Legal (lineSteps w l)
 unfolding lineSteps

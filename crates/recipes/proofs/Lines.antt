@@ -1,4 +1,4 @@
--- Laws of `linesOf`, one for each way that the reader's loop goes on, and of the slots that it fills. Assumes nothing.
+-- Laws of `linesOf`, one for each way that the reader's loop goes on, and of the padded that it fills. Assumes nothing.
 use Prim.Native.Nat.{ℕ, suc, _+_, _-_, _/_, _≤_, _<_}
 use mathlib.Core.Bool.{Bool, true, false, cond}
 use mathlib.Core.List.{List, [], _∷_, _++_, append-assoc}
@@ -10,7 +10,7 @@ use lib.ListN.{length, set, replicate, length-append}
 use lib.Seq.{set-append-seam}
 use borrow.Author.Tests.{eq-eqb, ne-eqb}
 use Rattle.recipes.specs.Text.{before, after, parts}
-use Rattle.recipes.specs.Reader.{slots, accepted, refusedAt, endOf, orSlip, lineOf, linesOf}
+use Rattle.recipes.specs.Reader.{padded, accepted, refusedAt, endOf, orSlip, lineOf, linesOf}
 use Rattle.recipes.specs.declared.types.Line.{Line}
 use Rattle.recipes.specs.declared.types.Refusal.the-variants.{Syntax, TooManyLines}
 
@@ -44,7 +44,7 @@ module _ (w : ℕ) (ls : List Line) where
   lines-done (x ∷ xs) h = absurd (not-suc-le-zero h)
 
 -- one more slot is filled
-pub slots-more : (ls : List Line) (l : Line) → length ls < 32 → set (slots ls) (length ls) l ≡ slots (ls ++ (l ∷ []))
-slots-more ls l h =
+pub padded-more : (ls : List Line) (l : Line) → length ls < 32 → set (padded ls) (length ls) l ≡ padded (ls ++ (l ∷ []))
+padded-more ls l h =
     let n : 32 - length ls ≡ suc (32 - length (ls ++ (l ∷ []))) = rw length-append (omega arith) in
     rw (n, set-append-seam, append-assoc)

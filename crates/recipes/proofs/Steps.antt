@@ -9,62 +9,45 @@ use mathlib.Core.Path.{_≡_, refl}
 use native.Mathlib.Omega.{arith}
 use lib.ListN.{length, take, getD, length-append}
 use lib.Seq.{take-append-add}
+use Rattle.step.specs.declared.steps.OneOp.the-variants.{Clr}
+use Rattle.step.specs.declared.steps.Step.{Step}
 use Rattle.recipes.specs.declared.types.Verb.{Verb}
-use Rattle.recipes.specs.declared.types.Verb.the-variants.{Clear, Copy, Add, Sub, Neg, Not, Halve, Down, Up}
 use Rattle.recipes.specs.declared.types.Line.{Line}
-use Rattle.recipes.specs.Recipe.{target, unused}
-use Rattle.recipes.specs.Listing.{firstOf, nextOf, highestFirst, upward, downward, rising, falling, lineSteps, listingOf, stepsAt, stepsOf}
+use Rattle.recipes.specs.Recipe.{isCopy, target, unused}
+use Rattle.recipes.specs.Listing.{one, firstStep, otherStep, withClr, highestFirst, risingRest, fallingRest, rising, falling, lineSteps, listingOf, stepsAt, stepsOf}
 
-pub first-length : (v : Verb) (p q : ℕ) → length (firstOf v p q) ≡ stepsAt v
-first-length Clear p q = refl
-first-length Copy p q = refl
-first-length Add p q = refl
-first-length Sub p q = refl
-first-length Neg p q = refl
-first-length Not p q = refl
-first-length Halve p q = refl
-first-length Down p q = refl
-first-length Up p q = refl
-
-pub next-length : (v : Verb) (p q : ℕ) → length (nextOf v p q) ≡ stepsAt v
-next-length Clear p q = refl
-next-length Copy p q = refl
-next-length Add p q = refl
-next-length Sub p q = refl
-next-length Neg p q = refl
-next-length Not p q = refl
-next-length Halve p q = refl
-next-length Down p q = refl
-next-length Up p q = refl
+-- the steps at one register
+pub there-length : (v : Verb) (q : ℕ) (k : Step) → length (withClr v q k) ≡ stepsAt v
+there-length v q k = go (isCopy v)
+  where
+    go : (t : Bool) → length (cond t (one Clr q ∷ k ∷ []) (k ∷ [])) ≡ cond t 2 1
+    go true = refl
+    go false = refl
 
 pub steps-at-most : (v : Verb) → (1 ≤ stepsAt v) × (stepsAt v ≤ 2)
-steps-at-most Clear = (omega arith, omega arith)
-steps-at-most Copy = (omega arith, omega arith)
-steps-at-most Add = (omega arith, omega arith)
-steps-at-most Sub = (omega arith, omega arith)
-steps-at-most Neg = (omega arith, omega arith)
-steps-at-most Not = (omega arith, omega arith)
-steps-at-most Halve = (omega arith, omega arith)
-steps-at-most Down = (omega arith, omega arith)
-steps-at-most Up = (omega arith, omega arith)
+steps-at-most v = go (isCopy v)
+  where
+    go : (t : Bool) → (1 ≤ cond t 2 1) × (cond t 2 1 ≤ 2)
+    go true = (omega arith, omega arith)
+    go false = (omega arith, omega arith)
 
-pub upward-length : (v : Verb) (n p q : ℕ) → length (upward v n p q) ≡ stepsAt v * n
-unfolding upward
-upward-length v zero p q = omega arith
-upward-length v (suc n) p q = rw (length-append, next-length v p q, upward-length v n (suc p) (suc q)) (omega arith)
+pub risingRest-length : (v : Verb) (n p q : ℕ) → length (risingRest v n p q) ≡ stepsAt v * n
+unfolding risingRest
+risingRest-length v zero p q = omega arith
+risingRest-length v (suc n) p q = rw (length-append, there-length v q (otherStep v p q), risingRest-length v n (suc p) (suc q)) (omega arith)
 
-pub downward-length : (v : Verb) (n p q : ℕ) → length (downward v n p q) ≡ stepsAt v * n
-unfolding downward
-downward-length v zero p q = omega arith
-downward-length v (suc n) p q = rw (length-append, next-length v (p + n) (q + n), downward-length v n p q) (omega arith)
+pub fallingRest-length : (v : Verb) (n p q : ℕ) → length (fallingRest v n p q) ≡ stepsAt v * n
+unfolding fallingRest
+fallingRest-length v zero p q = omega arith
+fallingRest-length v (suc n) p q = rw (length-append, there-length v (q + n) (otherStep v (p + n) (q + n)), fallingRest-length v n p q) (omega arith)
 
 rising-length : (v : Verb) (n p q : ℕ) → length (rising v n p q) ≡ stepsAt v * n
 rising-length v zero p q = omega arith
-rising-length v (suc n) p q = rw (length-append, first-length v p q, upward-length v n (suc p) (suc q)) (omega arith)
+rising-length v (suc n) p q = rw (length-append, there-length v q (firstStep v p q), risingRest-length v n (suc p) (suc q)) (omega arith)
 
 falling-length : (v : Verb) (n p q : ℕ) → length (falling v n p q) ≡ stepsAt v * n
 falling-length v zero p q = omega arith
-falling-length v (suc n) p q = rw (length-append, first-length v (p + n) (q + n), downward-length v n p q) (omega arith)
+falling-length v (suc n) p q = rw (length-append, there-length v (q + n) (firstStep v (p + n) (q + n)), fallingRest-length v n p q) (omega arith)
 
 pub line-length : (w : ℕ) (l : Line) → length (lineSteps w l) ≡ stepsAt (l .verb) * w
 unfolding lineSteps

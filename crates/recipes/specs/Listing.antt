@@ -7,7 +7,6 @@ use lib.ListN.{length, drop, replicate}
 use Rattle.alu.specs.declared.types.Size.the-variants.{Long}
 use Rattle.alu.specs.declared.shift_rotate.ShiftOp.{ShiftOp}
 use Rattle.alu.specs.declared.shift_rotate.ShiftOp.the-variants.{Asr, Lsl, Lsr, Roxl, Roxr}
-use Rattle.step.specs.declared.registers.D.{D}
 use Rattle.step.specs.declared.steps.TwoOp.{TwoOp}
 use Rattle.step.specs.declared.steps.TwoOp.the-variants as TwoOp
 use Rattle.step.specs.declared.steps.OneOp.{OneOp}
@@ -26,7 +25,7 @@ use Rattle.recipes.specs.declared.types.Translated.{Translated}
 use Rattle.recipes.specs.declared.types.Listing.{Listing}
 use Rattle.recipes.specs.declared.reader.LineRead.{LineRead}
 use Rattle.recipes.specs.declared.reader.LineRead.the-variants.{Read, Slip}
-use Rattle.recipes.specs.Recipe.{target, isWidth, recipeLines, checkedOf}
+use Rattle.recipes.specs.Recipe.{isCopy, target, isWidth, recipeLines, checkedOf}
 
 -- ---- the steps: all are long, from data register p to data register q; a shift is by #1
 
@@ -42,28 +41,32 @@ one op q = long (One op (record { 0 = q }))
 abbrev pub shift : ShiftOp → (q : ℕ) → Step
 shift op q = long (Shift op (Small 1) (record { 0 = q }))
 
--- a verb's steps at one word: at the first word that it takes, and at each other
-abbrev pub firstOf : Verb → (p q : ℕ) → List Step
-firstOf Clear p q = one OneOp.Clr q ∷ []
-firstOf Copy p q = one OneOp.Clr q ∷ two TwoOp.Add p q ∷ []
-firstOf Add p q = two TwoOp.Add p q ∷ []
-firstOf Sub p q = two TwoOp.Sub p q ∷ []
-firstOf Neg p q = one OneOp.Neg q ∷ []
-firstOf Not p q = one OneOp.Not q ∷ []
-firstOf Halve p q = shift Asr q ∷ []
-firstOf Down p q = shift Lsr q ∷ []
-firstOf Up p q = shift Lsl q ∷ []
+-- a verb's step at the first register that it takes, and at each other
+abbrev pub firstStep : Verb → (p q : ℕ) → Step
+firstStep Clear p q = one OneOp.Clr q
+firstStep Copy p q = two TwoOp.Add p q
+firstStep Add p q = two TwoOp.Add p q
+firstStep Sub p q = two TwoOp.Sub p q
+firstStep Neg p q = one OneOp.Neg q
+firstStep Not p q = one OneOp.Not q
+firstStep Halve p q = shift Asr q
+firstStep Down p q = shift Lsr q
+firstStep Up p q = shift Lsl q
 
-abbrev pub nextOf : Verb → (p q : ℕ) → List Step
-nextOf Clear p q = one OneOp.Clr q ∷ []
-nextOf Copy p q = one OneOp.Clr q ∷ two TwoOp.Add p q ∷ []
-nextOf Add p q = two TwoOp.Addx p q ∷ []
-nextOf Sub p q = two TwoOp.Subx p q ∷ []
-nextOf Neg p q = one OneOp.Negx q ∷ []
-nextOf Not p q = one OneOp.Not q ∷ []
-nextOf Halve p q = shift Roxr q ∷ []
-nextOf Down p q = shift Roxr q ∷ []
-nextOf Up p q = shift Roxl q ∷ []
+abbrev pub otherStep : Verb → (p q : ℕ) → Step
+otherStep Clear p q = one OneOp.Clr q
+otherStep Copy p q = two TwoOp.Add p q
+otherStep Add p q = two TwoOp.Addx p q
+otherStep Sub p q = two TwoOp.Subx p q
+otherStep Neg p q = one OneOp.Negx q
+otherStep Not p q = one OneOp.Not q
+otherStep Halve p q = shift Roxr q
+otherStep Down p q = shift Roxr q
+otherStep Up p q = shift Roxl q
+
+-- a copy has a CLR before each
+abbrev pub withClr : Verb → (q : ℕ) → Step → List Step
+withClr v q k = cond (isCopy v) (one OneOp.Clr q ∷ k ∷ []) (k ∷ [])
 
 -- lowest register first, but halve and down highest first
 abbrev pub highestFirst : Verb → Bool
@@ -77,25 +80,25 @@ highestFirst Halve = true
 highestFirst Down = true
 highestFirst Up = false
 
--- ---- a line: n words from registers p and q on
+-- ---- a line: n registers from p and q on
 
--- the words after the first one taken
-unfoldable pub upward : Verb → (n p q : ℕ) → List Step
-upward v zero p q = []
-upward v (suc n) p q = nextOf v p q ++ upward v n (suc p) (suc q)
+-- all of them lowest first; those after the first
+unfoldable pub risingRest : Verb → (n p q : ℕ) → List Step
+risingRest v zero p q = []
+risingRest v (suc n) p q = withClr v q (otherStep v p q) ++ risingRest v n (suc p) (suc q)
 
-unfoldable pub downward : Verb → (n p q : ℕ) → List Step
-downward v zero p q = []
-downward v (suc n) p q = nextOf v (p + n) (q + n) ++ downward v n p q
-
--- all of them, lowest first and highest first
 abbrev pub rising : Verb → (n p q : ℕ) → List Step
 rising v zero p q = []
-rising v (suc n) p q = firstOf v p q ++ upward v n (suc p) (suc q)
+rising v (suc n) p q = withClr v q (firstStep v p q) ++ risingRest v n (suc p) (suc q)
+
+-- and highest first
+unfoldable pub fallingRest : Verb → (n p q : ℕ) → List Step
+fallingRest v zero p q = []
+fallingRest v (suc n) p q = withClr v (q + n) (otherStep v (p + n) (q + n)) ++ fallingRest v n p q
 
 abbrev pub falling : Verb → (n p q : ℕ) → List Step
 falling v zero p q = []
-falling v (suc n) p q = firstOf v (p + n) (q + n) ++ downward v n p q
+falling v (suc n) p q = withClr v (q + n) (firstStep v (p + n) (q + n)) ++ fallingRest v n p q
 
 -- number k of width w is the registers from D(kw) on
 unfoldable pub lineSteps : (w : ℕ) → Line → List Step
@@ -110,15 +113,7 @@ listingOf w (l ∷ ls) = lineSteps w l ++ listingOf w ls
 
 -- document 01's number of steps: w for a line, 2w for a copy (`listing-steps` of proofs/Steps: it is the listing's length)
 abbrev pub stepsAt : Verb → ℕ
-stepsAt Clear = 1
-stepsAt Copy = 2
-stepsAt Add = 1
-stepsAt Sub = 1
-stepsAt Neg = 1
-stepsAt Not = 1
-stepsAt Halve = 1
-stepsAt Down = 1
-stepsAt Up = 1
+stepsAt v = cond (isCopy v) 2 1
 
 unfoldable pub stepsOf : (w : ℕ) → List Line → ℕ
 stepsOf w [] = 0
@@ -128,14 +123,14 @@ stepsOf w (l ∷ ls) = stepsAt (l .verb) * w + stepsOf w ls
 -- refusal answers, and `go` what is answered when all are passed
 
 module _ {R : Type 0} (refused : Refusal → ℕ → R) where
-  abbrev pub orSlip : LineRead → (line : ℕ) → (go : R) → R
-  orSlip (Slip k) line go = refused k line
-  orSlip (Read l) line go = go
+  abbrev pub unlessSlip : LineRead → (line : ℕ) → (go : R) → R
+  unlessSlip (Slip k) line go = refused k line
+  unlessSlip (Read l) line go = go
 
   -- the lines in turn, in a recipe of n numbers; the first has this text line
   unfoldable pub linesPass : (n line : ℕ) → List Line → (go : R) → R
   linesPass n line [] go = go
-  linesPass n line (l ∷ ls) go = orSlip (checkedOf n l) line (linesPass n (suc line) ls go)
+  linesPass n line (l ∷ ls) go = unlessSlip (checkedOf n l) line (linesPass n (suc line) ls go)
 
   abbrev pub tested : Recipe → (go : R) → R
   tested r go =
@@ -149,6 +144,7 @@ module _ {R : Type 0} (refused : Refusal → ℕ → R) where
 abbrev pub over : (new old : List Step) → List Step
 over new old = new ++ drop (length new) old
 
+-- (a `Listing` here has a row of any length; that of the code has 256 slots)
 abbrev pub listed : Refusal → (line count : ℕ) → List Step → Listing
 listed refusal line count steps = record { refusal = refusal; line = line; count = count; steps = steps }
 

@@ -1,18 +1,14 @@
 -- Terms of private functions' contracts: the search for a byte, writing, and the translator's parts. No promise of a public function names anything of this
 -- page, and a reader of the promises can leave it out. Assumes nothing.
 use mathlib.Core.Path.{_≡_}
-use mathlib.Core.Bool.{Bool, true, false, cond}
-use mathlib.Core.List.{List, [], _∷_}
+use mathlib.Core.Bool.{Bool, cond}
+use mathlib.Core.List.{List, []}
 use Prim.Native.Nat.{ℕ, _+_, _-_, _*_, _/_, _≤_, _<_}
 use lib.Dec.{ltb}
 use lib.ListN.{length, take, drop}
 use lib.Seq.{sets}
-use Rattle.alu.specs.declared.shift_rotate.ShiftOp.the-variants.{Asr, Lsl, Lsr, Roxl, Roxr}
-use Rattle.step.specs.declared.steps.TwoOp.the-variants as TwoOp
-use Rattle.step.specs.declared.steps.OneOp.the-variants as OneOp
 use Rattle.step.specs.declared.steps.Step.{Step}
 use Rattle.recipes.specs.declared.types.Verb.{Verb}
-use Rattle.recipes.specs.declared.types.Verb.the-variants.{Clear, Copy, Add, Sub, Neg, Not, Halve, Down, Up}
 use Rattle.recipes.specs.declared.types.Line.{Line}
 use Rattle.recipes.specs.declared.types.Recipe.{Recipe}
 use Rattle.recipes.specs.declared.types.Refusal.{Refusal}
@@ -21,7 +17,7 @@ use Rattle.recipes.specs.declared.types.Translated.{Translated}
 use Rattle.recipes.specs.declared.types.Listing.{Listing}
 use Rattle.recipes.specs.Text.{before, after, parts, reach}
 use Rattle.recipes.specs.Recipe.{recipeLines, Names, Accepted}
-use Rattle.recipes.specs.Listing.{one, two, shift, firstOf, nextOf, highestFirst, stepsAt, stepsOf, linesPass, tested}
+use Rattle.recipes.specs.Listing.{firstStep, otherStep, withClr, highestFirst, stepsAt, stepsOf, linesPass, tested}
 
 -- ---- the search for a byte
 
@@ -46,34 +42,11 @@ pub record Wrote (old : List ℕ) (at : ℕ) (text : List ℕ) (out : List ℕ) 
 
 -- ---- one step of a line
 
--- a verb's own step at a number's first word, and at the others: the last of the word's steps
-abbrev pub firstStep : Verb → (p q : ℕ) → Step
-firstStep Clear p q = one OneOp.Clr q
-firstStep Copy p q = two TwoOp.Add p q
-firstStep Add p q = two TwoOp.Add p q
-firstStep Sub p q = two TwoOp.Sub p q
-firstStep Neg p q = one OneOp.Neg q
-firstStep Not p q = one OneOp.Not q
-firstStep Halve p q = shift Asr q
-firstStep Down p q = shift Lsr q
-firstStep Up p q = shift Lsl q
+-- the steps at one register
+abbrev pub registerSteps : (first : Bool) → Verb → (p q : ℕ) → List Step
+registerSteps first v p q = withClr v q (cond first (firstStep v p q) (otherStep v p q))
 
-abbrev pub nextStep : Verb → (p q : ℕ) → Step
-nextStep Clear p q = one OneOp.Clr q
-nextStep Copy p q = two TwoOp.Add p q
-nextStep Add p q = two TwoOp.Addx p q
-nextStep Sub p q = two TwoOp.Subx p q
-nextStep Neg p q = one OneOp.Negx q
-nextStep Not p q = one OneOp.Not q
-nextStep Halve p q = shift Roxr q
-nextStep Down p q = shift Roxr q
-nextStep Up p q = shift Roxl q
-
-abbrev pub wordOf : (first : Bool) → Verb → (p q : ℕ) → List Step
-wordOf true v p q = firstOf v p q
-wordOf false v p q = nextOf v p q
-
--- which of a number's w registers comes at word i
+-- which of a number's w registers is the i-th that is taken
 abbrev pub offsetOf : Verb → (w i : ℕ) → ℕ
 offsetOf v w i = cond (highestFirst v) (w - 1 - i) i
 

@@ -11,8 +11,8 @@ use Rattle.recipes.specs.declared.types.Recipe.{Recipe}
 use Rattle.recipes.specs.declared.types.Reading.{Reading}
 use Rattle.recipes.specs.declared.types.Refusal.{Refusal}
 use Rattle.recipes.specs.declared.types.Refusal.the-variants.{Nothing, WidthLine, Syntax, TooManyLines}
-use Rattle.recipes.specs.declared.reader.Word.{Word}
-use Rattle.recipes.specs.declared.reader.Word.the-variants.{Known, Unknown}
+use Rattle.recipes.specs.declared.reader.VerbRead.{VerbRead}
+use Rattle.recipes.specs.declared.reader.VerbRead.the-variants.{Known, Unknown}
 use Rattle.recipes.specs.declared.reader.Digit.{Digit}
 use Rattle.recipes.specs.declared.reader.Digit.the-variants.{Is, Bad}
 use Rattle.recipes.specs.declared.reader.LineRead.{LineRead}
@@ -26,20 +26,20 @@ abbrev pub readingOf : Refusal → (line width count : ℕ) → List Line → Re
 readingOf refusal line width count lines =
     record { refusal = refusal; line = line; recipe = record { width = width; count = count; lines = lines } }
 
--- a recipe of width w with the lines ls; the slots past them are `clear 0`
-abbrev pub slots : List Line → List Line
-slots ls = ls ++ replicate (32 - length ls) unused
+-- a recipe of width w with the lines ls; the padded past them are `clear 0`
+abbrev pub padded : List Line → List Line
+padded ls = ls ++ replicate (32 - length ls) unused
 
 abbrev pub accepted : (w : ℕ) → List Line → Reading
-accepted w ls = readingOf Nothing 0 w (length ls) (slots ls)
+accepted w ls = readingOf Nothing 0 w (length ls) (padded ls)
 
 -- a refusal with its text line: the recipe has width 1 and no lines
 abbrev pub refusedAt : Refusal → (line : ℕ) → Reading
-refusedAt k line = readingOf k line 1 0 (slots [])
+refusedAt k line = readingOf k line 1 0 (padded [])
 
 -- ---- fields
 
-unfoldable pub verbOf : List ℕ → Word
+unfoldable pub verbOf : List ℕ → VerbRead
 verbOf word =
     cond (sameBytes word (ascii "clear")) (Known Clear)
     (cond (sameBytes word (ascii "copy")) (Known Copy)
@@ -88,9 +88,9 @@ twoOf v (f ∷ g ∷ []) = withTwo v (digitOf f) (digitOf g)
 twoOf v (f ∷ g ∷ h ∷ more) = Slip Syntax
 
 -- a word in the verb's place, with the fields after it
-abbrev pub wordsOf : Word → List (List ℕ) → LineRead
-wordsOf Unknown fields = Slip Syntax
-wordsOf (Known v) fields = cond (takesTwo v) (twoOf v fields) (oneOf v fields)
+abbrev pub fieldsOf : VerbRead → List (List ℕ) → LineRead
+fieldsOf Unknown fields = Slip Syntax
+fieldsOf (Known v) fields = cond (takesTwo v) (twoOf v fields) (oneOf v fields)
 
 abbrev pub thenChecked : (n : ℕ) → LineRead → LineRead
 thenChecked n (Slip k) = Slip k
@@ -98,7 +98,7 @@ thenChecked n (Read l) = checkedOf n l
 
 -- a text line in a recipe of n numbers: 5, then 6 and 7
 unfoldable pub lineOf : (n : ℕ) → List ℕ → LineRead
-lineOf n row = thenChecked n (wordsOf (verbOf (before 9 row)) (after 9 row))
+lineOf n row = thenChecked n (fieldsOf (verbOf (before 9 row)) (after 9 row))
 
 -- ---- the lines after the width line. Behind the lines ls the next has text line `length ls + 2`
 
@@ -129,10 +129,10 @@ unfoldable pub widthLine : List ℕ → ℕ
 widthLine row = cond (sameBytes (before 9 row) (ascii "width")) (widthDigit (onlyDigit (after 9 row))) 0
 
 -- the first line, and the parts after it
-abbrev pub firstOf : List ℕ → List (List ℕ) → Reading
-firstOf row [] = refusedAt WidthLine 1
-firstOf row (next ∷ more) = cond (eqb (widthLine row) 0) (refusedAt WidthLine 1) (linesOf (widthLine row) [] next more)
+abbrev pub fromFirst : List ℕ → List (List ℕ) → Reading
+fromFirst row [] = refusedAt WidthLine 1
+fromFirst row (next ∷ more) = cond (eqb (widthLine row) 0) (refusedAt WidthLine 1) (linesOf (widthLine row) [] next more)
 
 -- a recipe text
 unfoldable pub readOf : List ℕ → Reading
-readOf text = firstOf (before 10 text) (after 10 text)
+readOf text = fromFirst (before 10 text) (after 10 text)

@@ -35,7 +35,7 @@ use step::steps::Step;
 use step::steps::TwoOp;
 use step::steps::perform;
 
-fn put_two(out: &mut [u8], at: usize, op: TwoOp) -> usize
+fn put_two_name(out: &mut [u8], at: usize, op: TwoOp) -> usize
     ensures { λ r. ⌜ Wrote (now (out .entry)) at (twoName op) (now (out .exit)) r ⌝ }
 {
     match op {
@@ -47,7 +47,7 @@ fn put_two(out: &mut [u8], at: usize, op: TwoOp) -> usize
     }
 }
 
-fn put_address(out: &mut [u8], at: usize, op: AddressOp) -> usize
+fn put_address_name(out: &mut [u8], at: usize, op: AddressOp) -> usize
     ensures { λ r. ⌜ Wrote (now (out .entry)) at (addressName op) (now (out .exit)) r ⌝ }
 {
     match op {
@@ -57,7 +57,7 @@ fn put_address(out: &mut [u8], at: usize, op: AddressOp) -> usize
     }
 }
 
-fn put_quick(out: &mut [u8], at: usize, op: QuickOp) -> usize
+fn put_quick_name(out: &mut [u8], at: usize, op: QuickOp) -> usize
     ensures { λ r. ⌜ Wrote (now (out .entry)) at (quickName op) (now (out .exit)) r ⌝ }
 {
     match op {
@@ -66,7 +66,7 @@ fn put_quick(out: &mut [u8], at: usize, op: QuickOp) -> usize
     }
 }
 
-fn put_one(out: &mut [u8], at: usize, op: OneOp) -> usize
+fn put_one_name(out: &mut [u8], at: usize, op: OneOp) -> usize
     ensures { λ r. ⌜ Wrote (now (out .entry)) at (oneName op) (now (out .exit)) r ⌝ }
 {
     match op {
@@ -78,7 +78,7 @@ fn put_one(out: &mut [u8], at: usize, op: OneOp) -> usize
     }
 }
 
-fn put_shift(out: &mut [u8], at: usize, op: ShiftOp) -> usize
+fn put_shift_name(out: &mut [u8], at: usize, op: ShiftOp) -> usize
     ensures { λ r. ⌜ Wrote (now (out .entry)) at (shiftName op) (now (out .exit)) r ⌝ }
 {
     match op {
@@ -93,7 +93,7 @@ fn put_shift(out: &mut [u8], at: usize, op: ShiftOp) -> usize
     }
 }
 
-fn put_bit(out: &mut [u8], at: usize, op: BitOp) -> usize
+fn put_bit_name(out: &mut [u8], at: usize, op: BitOp) -> usize
     ensures { λ r. ⌜ Wrote (now (out .entry)) at (bitName op) (now (out .exit)) r ⌝ }
 {
     match op {
@@ -108,12 +108,12 @@ fn put_operation(out: &mut [u8], at: usize, form: Form) -> usize
     ensures { λ r. ⌜ Wrote (now (out .entry)) at (operationText form) (now (out .exit)) r ⌝ }
 {
     match form {
-        Form::Two(op, _, _) => put_two(out, at, op),
-        Form::Address(op, _, _) => put_address(out, at, op),
-        Form::Quick(op, _, _) => put_quick(out, at, op),
-        Form::One(op, _) => put_one(out, at, op),
-        Form::Shift(op, _, _) => put_shift(out, at, op),
-        Form::Bit(op, _, _) => put_bit(out, at, op),
+        Form::Two(op, _, _) => put_two_name(out, at, op),
+        Form::Address(op, _, _) => put_address_name(out, at, op),
+        Form::Quick(op, _, _) => put_quick_name(out, at, op),
+        Form::One(op, _) => put_one_name(out, at, op),
+        Form::Shift(op, _, _) => put_shift_name(out, at, op),
+        Form::Bit(op, _, _) => put_bit_name(out, at, op),
         Form::Chk(_, _) => put_bytes(out, at, b"CHK"),
     }
 }

@@ -4,10 +4,10 @@ ghost use Prim.Native.Nat.{_<_};
 ghost use mathlib.Core.Bool.{cond};
 ghost use mathlib.Core.List.{[]};
 ghost use lib.ListN.{replicate};
-ghost use Rattle.recipes.specs.declared.reader.Word.the-variants.{Known};
+ghost use Rattle.recipes.specs.declared.reader.VerbRead.the-variants.{Known};
 ghost use Rattle.recipes.specs.Text.{before, after, parts, sameBytes};
 ghost use Rattle.recipes.specs.Recipe.{unused, checkedOf};
-ghost use Rattle.recipes.specs.Reader.{verbOf, digitOf, onlyDigit, oneOf, twoOf, wordsOf, lineOf, readingOf, refusedAt, linesOf, widthDigit, widthLine, readOf};
+ghost use Rattle.recipes.specs.Reader.{verbOf, digitOf, onlyDigit, oneOf, twoOf, fieldsOf, lineOf, readingOf, refusedAt, linesOf, widthDigit, widthLine, readOf};
 use super::text::NEWLINE;
 use super::text::TAB;
 use super::text::first;
@@ -21,7 +21,7 @@ use super::types::is_copy;
 use super::types::takes_two;
 
 // What a word in the verb's place is.
-pub(crate) enum Word {
+pub(crate) enum VerbRead {
     Known(Verb),
     Unknown,
 }
@@ -39,19 +39,19 @@ pub(crate) enum LineRead {
 }
 
 // `verb` where the word is its name, and otherwise what was found among the other verbs.
-fn or_verb(word: &[u8], name: &[u8], verb: Verb, other: Word) -> Word
+fn or_verb(word: &[u8], name: &[u8], verb: Verb, other: VerbRead) -> VerbRead
     ensures { λ r. ⌜ r ≡ cond (sameBytes (now (word .entry)) (now (name .entry))) (Known verb) other ⌝ }
 {
     if same(word, name) {
-        return Word::Known(verb);
+        return VerbRead::Known(verb);
     }
     other
 }
 
-fn verb_of(word: &[u8]) -> Word
+fn verb_of(word: &[u8]) -> VerbRead
     ensures { λ r. ⌜ r ≡ verbOf (now (word .entry)) ⌝ }
 {
-    let found = Word::Unknown;
+    let found = VerbRead::Unknown;
     let found = or_verb(word, b"up", Verb::Up, found);
     let found = or_verb(word, b"down", Verb::Down, found);
     let found = or_verb(word, b"halve", Verb::Halve, found);
@@ -122,10 +122,10 @@ fn read_two(verb: Verb, fields: &[u8]) -> LineRead
 
 // The verb and the numbers of a line.
 fn read_fields(row: &[u8]) -> LineRead
-    ensures { λ r. ⌜ r ≡ wordsOf (verbOf (before 9 (now (row .entry)))) (after 9 (now (row .entry))) ⌝ }
+    ensures { λ r. ⌜ r ≡ fieldsOf (verbOf (before 9 (now (row .entry)))) (after 9 (now (row .entry))) ⌝ }
 {
     let tab = first(row, TAB);
-    let Word::Known(verb) = verb_of(&row[..tab]) else {
+    let VerbRead::Known(verb) = verb_of(&row[..tab]) else {
         return LineRead::Slip(Refusal::Syntax);
     };
     if row.len() <= tab {

@@ -4,8 +4,8 @@ ghost use mathlib.Core.Path.{_≡_};
 ghost use Prim.Native.Nat.{_/_, _%_, _*_, _+_, _-_, _<_, _≤_};
 ghost use lib.ListN.{getD, take};
 ghost use Rattle.recipes.specs.Recipe.{isWidth, target};
-ghost use Rattle.recipes.specs.Listing.{one, two, shift, blank, blanks, stepsAt, highestFirst, lineSteps, listingOf, over, translateOf};
-ghost use Rattle.recipes.specs.Making.{refused, firstStep, nextStep, wordOf, offsetOf, judgeOf, judgeLines, Ready, Spot};
+ghost use Rattle.recipes.specs.Listing.{one, two, shift, firstStep, otherStep, blank, blanks, stepsAt, highestFirst, lineSteps, listingOf, over, translateOf};
+ghost use Rattle.recipes.specs.Making.{refused, registerSteps, offsetOf, judgeOf, judgeLines, Ready, Spot};
 use super::reader::LineRead;
 use super::reader::check_line;
 use super::types::Line;
@@ -54,13 +54,14 @@ fn shift(op: ShiftOp, q: u8) -> Step
 }
 
 // A slot that holds no step of a listing. There is no D255, so that a run that strays into it is refused.
-pub(crate) fn blank() -> Step
+fn blank() -> Step
     ensures { λ r. ⌜ r ≡ blank ⌝ }
 {
     one(OneOp::Clr, 255)
 }
 
-// The step of a verb at a number's first word. A copy's is its ADD: the CLR before it stands in `word_step`.
+// The step of a verb at the first register that it takes, of halve and down the highest. A copy's is its ADD: the CLR
+// before it stands in `register_step`.
 fn first_step(verb: Verb, p: u8, q: u8) -> Step
     ensures { λ r. ⌜ r ≡ firstStep verb p q ⌝ }
 {
@@ -77,9 +78,9 @@ fn first_step(verb: Verb, p: u8, q: u8) -> Step
     }
 }
 
-// And at the other words, where X comes in from the word before.
-fn next_step(verb: Verb, p: u8, q: u8) -> Step
-    ensures { λ r. ⌜ r ≡ nextStep verb p q ⌝ }
+// And at each other register: all but clear, copy and not take in the X that the register before left.
+fn other_step(verb: Verb, p: u8, q: u8) -> Step
+    ensures { λ r. ⌜ r ≡ otherStep verb p q ⌝ }
 {
     match verb {
         Verb::Clear => one(OneOp::Clr, q),
@@ -94,10 +95,10 @@ fn next_step(verb: Verb, p: u8, q: u8) -> Step
     }
 }
 
-// Step `part` of a word. A copy has two, its CLR and its ADD.
-fn word_step(verb: Verb, first: bool, part: u8, p: u8, q: u8) -> Step
+// Step `part` of those at one register. A copy has two, its CLR and its ADD.
+fn register_step(verb: Verb, first: bool, part: u8, p: u8, q: u8) -> Step
     requires { ⌜ part < stepsAt verb ⌝ }
-    ensures { λ r. ⌜ r ≡ getD (wordOf first verb p q) part blank ⌝ }
+    ensures { λ r. ⌜ r ≡ getD (registerSteps first verb p q) part blank ⌝ }
 {
     let copies = is_copy(verb);
     if copies & (part == 0) {
@@ -106,7 +107,7 @@ fn word_step(verb: Verb, first: bool, part: u8, p: u8, q: u8) -> Step
     if first {
         first_step(verb, p, q)
     } else {
-        next_step(verb, p, q)
+        other_step(verb, p, q)
     }
 }
 
@@ -126,15 +127,15 @@ fn highest_first(verb: Verb) -> bool
     }
 }
 
-// Which of a number's registers comes at word `word`.
-fn offset(verb: Verb, width: u8, word: u8) -> u8
-    requires { ⌜ word < width ⌝ }
-    ensures { λ r. ⌜ (r ≡ offsetOf verb width word) × (r < width) ⌝ }
+// Which of a number's registers is the one taken at `index`, from 0.
+fn offset(verb: Verb, width: u8, index: u8) -> u8
+    requires { ⌜ index < width ⌝ }
+    ensures { λ r. ⌜ (r ≡ offsetOf verb width index) × (r < width) ⌝ }
 {
     if highest_first(verb) {
-        width - 1 - word
+        width - 1 - index
     } else {
-        word
+        index
     }
 }
 
@@ -146,8 +147,8 @@ fn target(line: Line) -> u8
     if takes_two(verb) { line.b } else { line.a }
 }
 
-// Step j of a line stands at this word of the number, and is this part of the word's steps.
-fn word_of(verb: Verb, j: u8) -> u8
+// Step j of a line is at the register taken at this index, and is this part of the steps there.
+fn index_of(verb: Verb, j: u8) -> u8
     ensures { λ r. ⌜ r ≡ j / stepsAt verb ⌝ }
 {
     if is_copy(verb) { j / 2 } else { j }
@@ -165,14 +166,14 @@ fn line_step(width: u8, line: Line, j: u8) -> Step
     ensures { λ r. ⌜ r ≡ getD (lineSteps width line) j blank ⌝ }
 {
     let verb = line.verb;
-    let word = word_of(verb, j);
+    let index = index_of(verb, j);
     let part = part_of(verb, j);
-    let at = offset(verb, width, word);
+    let at = offset(verb, width, index);
     let from = line.a * width;
     let to = target(line) * width;
     let p = from + at;
     let q = to + at;
-    word_step(verb, word == 0, part, p, q)
+    register_step(verb, index == 0, part, p, q)
 }
 
 // The steps that a line takes.
@@ -242,17 +243,17 @@ fn judge(recipe: Recipe) -> Translated
     judge_lines(width, count, lines)
 }
 
-// The first `count` steps of the lines, and blank slots behind them.
-fn lay(width: u8, lines: [Line; 32], count: usize) -> [Step; 256]
-    requires { ⌜ Ready width lines count ⌝ }
-    ensures { λ r. ⌜ r ≡ over (take count (listingOf width lines)) blanks ⌝ }
+// The first `total` steps of the lines, and blank slots behind them.
+fn lay(width: u8, lines: [Line; 32], total: usize) -> [Step; 256]
+    requires { ⌜ Ready width lines total ⌝ }
+    ensures { λ r. ⌜ r ≡ over (take total (listingOf width lines)) blanks ⌝ }
 {
     let none = blank();
     let mut steps = [none; 256];
     let mut k: usize = 0;
     let mut j: u8 = 0;
     let mut at: usize = 0;
-    while at < count {
+    while at < total {
         let line = lines[k];
         let verb = line.verb;
         steps[at] = line_step(width, line, j);
@@ -266,7 +267,7 @@ fn lay(width: u8, lines: [Line; 32], count: usize) -> [Step; 256]
     steps
 }
 
-// Translates a recipe by value. Any recipe needs at most 256 steps, so that there is always room.
+// Translates a recipe by value. An accepted recipe needs at most 256 steps, so that there is always room.
 pub fn translate_array(recipe: Recipe) -> Listing
     ensures { λ r. ⌜ r ≡ translateOf recipe blanks ⌝ }
 {

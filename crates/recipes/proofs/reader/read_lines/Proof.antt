@@ -7,20 +7,20 @@ use native.Mathlib.Omega.{arith}
 use lib.ListN.{length, length-append}
 use borrow.Author.Needs.{needs}
 use Rattle.recipes.specs.declared.types.Line.{Line}
-use Rattle.recipes.specs.Reader.{slots, orSlip, linesOf}
+use Rattle.recipes.specs.Reader.{padded, orSlip, linesOf}
 use Rattle.recipes.specs.Text.{before, after}
 use Rattle.recipes.specs.Making.{from}
-use Rattle.recipes.proofs.Lines.{lines-many, lines-cut, lines-next, lines-done, slots-more}
+use Rattle.recipes.proofs.Lines.{lines-many, lines-cut, lines-next, lines-done, padded-more}
 use Rattle.recipes.proofs.reader.read_lines.Statement.{statement}
 use Rattle.recipes.proofs.reader.read_lines.Tie as tie
 
--- the lines ls are read and stand in the slots, and reading goes on with what is left of the text
+-- the lines ls are read and stand in the padded, and reading goes on with what is left of the text
 record SoFar (width : ℕ) (text : List ℕ) (lines : List Line) (count : ℕ) (left : List ℕ) : Type 0 where
   ls : List Line
   many : count ≡ length ls
   within : count ≤ 32
   short : length left ≤ length text
-  stored : lines ≡ slots ls
+  stored : lines ≡ padded ls
   rest : linesOf width [] (before 10 text) (after 10 text) ≡ linesOf width ls (before 10 left) (after 10 left)
 
 abbrev Inv-loop : tie.InvT-loop
@@ -144,7 +144,7 @@ loop-again c =
       many = rw length-append (omega arith);
       within = search needs;
       short = search needs;
-      stored = rw (s .stored, s .many) (slots-more (s .ls) l (room (f .before)));
+      stored = rw (s .stored, s .many) (padded-more (s .ls) l (room (f .before)));
       rest = rw (turn (k .before .before), k .line .given .1);
     }
 

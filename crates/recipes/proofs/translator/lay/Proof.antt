@@ -13,10 +13,10 @@ use Rattle.recipes.proofs.translator.lay.Statement.{statement}
 use Rattle.recipes.proofs.translator.lay.Tie as tie
 
 abbrev Inv-loop : tie.InvT-loop
-Inv-loop width count lines steps₀ k₀ j₀ at₀ steps k j at = (length lines ≡ 32) × Laid width count lines steps k j at
+Inv-loop width total lines steps₀ k₀ j₀ at₀ steps k j at = (length lines ≡ 32) × Laid width total lines steps k j at
 
 abbrev μ-loop : tie.MeasureT-loop
-μ-loop width count lines steps₀ k₀ j₀ at₀ steps k j at = count - at
+μ-loop width total lines steps₀ k₀ j₀ at₀ steps k j at = total - at
 
 blank-requires : tie.Need-blank-requires Inv-loop μ-loop
 blank-requires c κs = search needs
@@ -25,7 +25,7 @@ loop-holds : tie.Need-loop-holds Inv-loop μ-loop
 loop-holds c =
     let s = c .before in
     let h : length (s .args .t2) ≡ 32 = search mapped in
-    (h, rw (c .blank .ensures) (laid-none (s .args .width) (s .args .count) (s .args .t2) (s .pre)))
+    (h, rw (c .blank .ensures) (laid-none (s .args .width) (s .args .total) (s .args .t2) (s .pre)))
 
 -- in a turn: the line, and what it needs
 line-in : (c : tie.In-loop Inv-loop μ-loop) → c .before .loop .k < 32
@@ -89,7 +89,7 @@ returns : tie.Need-returns Inv-loop μ-loop
 returns c =
     let l = c .before .loop in
     let a = c .before .before .before .args in
-    let all : l .at ≡ a .count = omega (arith, l .inv .1 .within, c .loop-test .left) in
+    let all : l .at ≡ a .total = omega (arith, l .inv .1 .within, c .loop-test .left) in
     rw all at (l .inv .1 .placed)
 
 pub lay-spec : {M : Type 1} → statement M

@@ -1,4 +1,4 @@
--- `recipes::translator::line_step` meets its contract: word and part of step j, by `line-at`. Assumes nothing.
+-- `recipes::translator::line_step` meets its contract: index and part of step j, by `line-at`. Assumes nothing.
 use Prim.Native.Nat.{_<_, _≤_, _+_, _*_}
 use mathlib.Core.Path.{_≡_, sym, _∙_}
 use native.Mathlib.Omega.{arith}
@@ -20,14 +20,14 @@ source s = number-fits (s .args .width) (s .args .line .a) (s .pre .1 .0 .source
 goal : (c : tie.After-target) → c .target .result * c .before .before .before .before .before .args .width + c .before .before .before .before .before .args .width ≤ 8
 goal c = let s = c .before .before .before .before .before in rw (c .target .ensures) (number-fits (s .args .width) _ (s .pre .1 .0 .goal))
 
-word-of-requires : tie.Need-word-of-requires
-word-of-requires c κs = search needs
+index-of-requires : tie.Need-index-of-requires
+index-of-requires c κs = search needs
 
 part-of-requires : tie.Need-part-of-requires
 part-of-requires c κs = search needs
 
 offset-requires : tie.Need-offset-requires
-offset-requires c κs = rw (c .before .word-of .ensures) (cuts (c .before .before) .word)
+offset-requires c κs = rw (c .before .index-of .ensures) (cuts (c .before .before) .index)
 
 mul-from : tie.Need-mul-from
 mul-from c = let h = source (c .before .before .before .before) in search needs
@@ -44,22 +44,22 @@ add-p c = let h = source (c .before .before .before .before .before) in search n
 add-q : tie.Need-add-q
 add-q c = let h = goal c in search needs
 
-word-step-requires : tie.Need-word-step-requires
-word-step-requires c κs = rw (c .before .before .before .part-of .ensures) (cuts (c .before .before .before .before .before) .part)
+register-step-requires : tie.Need-register-step-requires
+register-step-requires c κs = rw (c .before .before .before .part-of .ensures) (cuts (c .before .before .before .before .before) .part)
 
 returns : tie.Need-returns
 returns c =
     let t = c .before in
     let o = t .before .before in
     let s = o .before .before .before in
-    c .word-step .ensures
-    ∙ rw (t .target .ensures, o .offset .ensures .0, o .before .part-of .ensures, o .before .before .word-of .ensures) (line-at (s .args .width) (s .args .line) (s .args .j) (s .pre .1 .1))
+    c .register-step .ensures
+    ∙ rw (t .target .ensures, o .offset .ensures .0, o .before .part-of .ensures, o .before .before .index-of .ensures) (line-at (s .args .width) (s .args .line) (s .args .j) (s .pre .1 .1))
 
 pub line-step-spec : {M : Type 1} → statement M
 line-step-spec =
     tie.close
     (tie.spec
-    word-of-requires
+    index-of-requires
     part-of-requires
     offset-requires
     mul-from
@@ -67,5 +67,5 @@ line-step-spec =
     mul-to
     add-p
     add-q
-    word-step-requires
+    register-step-requires
     returns)

@@ -1,7 +1,7 @@
--- `recipes::printer::put_quick` meets its contract: each arm writes what the definition has for it. Assumes nothing.
+-- `recipes::printer::put_quick_name` meets its contract: each arm writes what the definition has for it. Assumes nothing.
 use borrow.Author.Needs.{needs}
-use Rattle.recipes.proofs.printer.put_quick.Statement.{statement}
-use Rattle.recipes.proofs.printer.put_quick.Tie as tie
+use Rattle.recipes.proofs.printer.put_quick_name.Statement.{statement}
+use Rattle.recipes.proofs.printer.put_quick_name.Tie as tie
 
 enum-told : tie.Need-enum-told
 enum-told c = search needs
@@ -33,8 +33,8 @@ same-length-2 c = search needs
 returns-2 : tie.Need-returns-2
 returns-2 c = rw (c .before .before .before .before .before .enum-told2 .given .1) (c .before .before .put-bytes2 .ensures)
 
-pub put-quick-spec : {M : Type 1} → statement M
-put-quick-spec =
+pub put-quick-name-spec : {M : Type 1} → statement M
+put-quick-name-spec =
     tie.close
     (tie.spec
     enum-told

@@ -1,10 +1,10 @@
--- `recipes::translator::word_of` meets its contract: a copy has two steps a word, any other verb one. Assumes nothing.
+-- `recipes::translator::index_of` meets its contract: a copy has two steps a word, any other verb one. Assumes nothing.
 use native.Mathlib.Nat.{div-one}
 use borrow.Author.Needs.{needs}
 use mathlib.Core.Path.{sym, _∙_}
 use Rattle.recipes.proofs.Words.{copy-steps, other-steps}
-use Rattle.recipes.proofs.translator.word_of.Statement.{statement}
-use Rattle.recipes.proofs.translator.word_of.Tie as tie
+use Rattle.recipes.proofs.translator.index_of.Statement.{statement}
+use Rattle.recipes.proofs.translator.index_of.Tie as tie
 
 is-copy-requires : tie.Need-is-copy-requires
 is-copy-requires c κs = search needs
@@ -15,5 +15,5 @@ returns c = rw (copy-steps _ (sym (c .before .is-copy .ensures) ∙ c .if1 .take
 returns-2 : tie.Need-returns-2
 returns-2 c = rw (other-steps _ (sym (c .before .is-copy .ensures) ∙ c .if1 .left), div-one)
 
-pub word-of-spec : {M : Type 1} → statement M
-word-of-spec = tie.close (tie.spec is-copy-requires returns returns-2)
+pub index-of-spec : {M : Type 1} → statement M
+index-of-spec = tie.close (tie.spec is-copy-requires returns returns-2)

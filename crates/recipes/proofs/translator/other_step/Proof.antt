@@ -1,7 +1,7 @@
--- `recipes::translator::next_step` meets its contract: each arm writes what the definition has for it. Assumes nothing.
+-- `recipes::translator::other_step` meets its contract: each arm writes what the definition has for it. Assumes nothing.
 use borrow.Author.Needs.{needs}
-use Rattle.recipes.proofs.translator.next_step.Statement.{statement}
-use Rattle.recipes.proofs.translator.next_step.Tie as tie
+use Rattle.recipes.proofs.translator.other_step.Statement.{statement}
+use Rattle.recipes.proofs.translator.other_step.Tie as tie
 
 enum-told : tie.Need-enum-told
 enum-told c = search needs
@@ -84,8 +84,8 @@ returns-8 c = rw (c .before .enum-told8 .given .1) (c .shift2 .ensures)
 returns-9 : tie.Need-returns-9
 returns-9 c = rw (c .before .enum-told9 .given .1) (c .shift3 .ensures)
 
-pub next-step-spec : {M : Type 1} → statement M
-next-step-spec =
+pub other-step-spec : {M : Type 1} → statement M
+other-step-spec =
     tie.close
     (tie.spec
     enum-told

@@ -1,7 +1,7 @@
--- `recipes::printer::put_bit` meets its contract: each arm writes what the definition has for it. Assumes nothing.
+-- `recipes::printer::put_address_name` meets its contract: each arm writes what the definition has for it. Assumes nothing.
 use borrow.Author.Needs.{needs}
-use Rattle.recipes.proofs.printer.put_bit.Statement.{statement}
-use Rattle.recipes.proofs.printer.put_bit.Tie as tie
+use Rattle.recipes.proofs.printer.put_address_name.Statement.{statement}
+use Rattle.recipes.proofs.printer.put_address_name.Tie as tie
 
 enum-told : tie.Need-enum-told
 enum-told c = search needs
@@ -30,15 +30,6 @@ slice-aggregate-put-bytes-3 c = search needs
 put-bytes-requires-3 : tie.Need-put-bytes-requires-3
 put-bytes-requires-3 c κs = search needs
 
-enum-told-4 : tie.Need-enum-told-4
-enum-told-4 c = search needs
-
-slice-aggregate-put-bytes-4 : tie.Need-slice-aggregate-put-bytes-4
-slice-aggregate-put-bytes-4 c = search needs
-
-put-bytes-requires-4 : tie.Need-put-bytes-requires-4
-put-bytes-requires-4 c κs = search needs
-
 same-length : tie.Need-same-length
 same-length c = search needs
 
@@ -57,14 +48,8 @@ same-length-3 c = search needs
 returns-3 : tie.Need-returns-3
 returns-3 c = rw (c .before .before .before .before .before .enum-told3 .given .1) (c .before .before .put-bytes3 .ensures)
 
-same-length-4 : tie.Need-same-length-4
-same-length-4 c = search needs
-
-returns-4 : tie.Need-returns-4
-returns-4 c = rw (c .before .before .before .before .before .enum-told4 .given .1) (c .before .before .put-bytes4 .ensures)
-
-pub put-bit-spec : {M : Type 1} → statement M
-put-bit-spec =
+pub put-address-name-spec : {M : Type 1} → statement M
+put-address-name-spec =
     tie.close
     (tie.spec
     enum-told
@@ -76,14 +61,9 @@ put-bit-spec =
     enum-told-3
     slice-aggregate-put-bytes-3
     put-bytes-requires-3
-    enum-told-4
-    slice-aggregate-put-bytes-4
-    put-bytes-requires-4
     same-length
     returns
     same-length-2
     returns-2
     same-length-3
-    returns-3
-    same-length-4
-    returns-4)
+    returns-3)

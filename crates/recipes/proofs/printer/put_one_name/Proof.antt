@@ -1,7 +1,7 @@
--- `recipes::printer::put_shift` meets its contract: each arm writes what the definition has for it. Assumes nothing.
+-- `recipes::printer::put_one_name` meets its contract: each arm writes what the definition has for it. Assumes nothing.
 use borrow.Author.Needs.{needs}
-use Rattle.recipes.proofs.printer.put_shift.Statement.{statement}
-use Rattle.recipes.proofs.printer.put_shift.Tie as tie
+use Rattle.recipes.proofs.printer.put_one_name.Statement.{statement}
+use Rattle.recipes.proofs.printer.put_one_name.Tie as tie
 
 enum-told : tie.Need-enum-told
 enum-told c = search needs
@@ -48,33 +48,6 @@ slice-aggregate-put-bytes-5 c = search needs
 put-bytes-requires-5 : tie.Need-put-bytes-requires-5
 put-bytes-requires-5 c κs = search needs
 
-enum-told-6 : tie.Need-enum-told-6
-enum-told-6 c = search needs
-
-slice-aggregate-put-bytes-6 : tie.Need-slice-aggregate-put-bytes-6
-slice-aggregate-put-bytes-6 c = search needs
-
-put-bytes-requires-6 : tie.Need-put-bytes-requires-6
-put-bytes-requires-6 c κs = search needs
-
-enum-told-7 : tie.Need-enum-told-7
-enum-told-7 c = search needs
-
-slice-aggregate-put-bytes-7 : tie.Need-slice-aggregate-put-bytes-7
-slice-aggregate-put-bytes-7 c = search needs
-
-put-bytes-requires-7 : tie.Need-put-bytes-requires-7
-put-bytes-requires-7 c κs = search needs
-
-enum-told-8 : tie.Need-enum-told-8
-enum-told-8 c = search needs
-
-slice-aggregate-put-bytes-8 : tie.Need-slice-aggregate-put-bytes-8
-slice-aggregate-put-bytes-8 c = search needs
-
-put-bytes-requires-8 : tie.Need-put-bytes-requires-8
-put-bytes-requires-8 c κs = search needs
-
 same-length : tie.Need-same-length
 same-length c = search needs
 
@@ -105,26 +78,8 @@ same-length-5 c = search needs
 returns-5 : tie.Need-returns-5
 returns-5 c = rw (c .before .before .before .before .before .enum-told5 .given .1) (c .before .before .put-bytes5 .ensures)
 
-same-length-6 : tie.Need-same-length-6
-same-length-6 c = search needs
-
-returns-6 : tie.Need-returns-6
-returns-6 c = rw (c .before .before .before .before .before .enum-told6 .given .1) (c .before .before .put-bytes6 .ensures)
-
-same-length-7 : tie.Need-same-length-7
-same-length-7 c = search needs
-
-returns-7 : tie.Need-returns-7
-returns-7 c = rw (c .before .before .before .before .before .enum-told7 .given .1) (c .before .before .put-bytes7 .ensures)
-
-same-length-8 : tie.Need-same-length-8
-same-length-8 c = search needs
-
-returns-8 : tie.Need-returns-8
-returns-8 c = rw (c .before .before .before .before .before .enum-told8 .given .1) (c .before .before .put-bytes8 .ensures)
-
-pub put-shift-spec : {M : Type 1} → statement M
-put-shift-spec =
+pub put-one-name-spec : {M : Type 1} → statement M
+put-one-name-spec =
     tie.close
     (tie.spec
     enum-told
@@ -142,15 +97,6 @@ put-shift-spec =
     enum-told-5
     slice-aggregate-put-bytes-5
     put-bytes-requires-5
-    enum-told-6
-    slice-aggregate-put-bytes-6
-    put-bytes-requires-6
-    enum-told-7
-    slice-aggregate-put-bytes-7
-    put-bytes-requires-7
-    enum-told-8
-    slice-aggregate-put-bytes-8
-    put-bytes-requires-8
     same-length
     returns
     same-length-2
@@ -160,10 +106,4 @@ put-shift-spec =
     same-length-4
     returns-4
     same-length-5
-    returns-5
-    same-length-6
-    returns-6
-    same-length-7
-    returns-7
-    same-length-8
-    returns-8)
+    returns-5)

@@ -1,7 +1,7 @@
--- `recipes::printer::put_two` meets its contract: each arm writes what the definition has for it. Assumes nothing.
+-- `recipes::printer::put_two_name` meets its contract: each arm writes what the definition has for it. Assumes nothing.
 use borrow.Author.Needs.{needs}
-use Rattle.recipes.proofs.printer.put_two.Statement.{statement}
-use Rattle.recipes.proofs.printer.put_two.Tie as tie
+use Rattle.recipes.proofs.printer.put_two_name.Statement.{statement}
+use Rattle.recipes.proofs.printer.put_two_name.Tie as tie
 
 enum-told : tie.Need-enum-told
 enum-told c = search needs
@@ -78,8 +78,8 @@ same-length-5 c = search needs
 returns-5 : tie.Need-returns-5
 returns-5 c = rw (c .before .before .before .before .before .enum-told5 .given .1) (c .before .before .put-bytes5 .ensures)
 
-pub put-two-spec : {M : Type 1} → statement M
-put-two-spec =
+pub put-two-name-spec : {M : Type 1} → statement M
+put-two-name-spec =
     tie.close
     (tie.spec
     enum-told
