@@ -5,7 +5,7 @@
 --     width-is        a width is at least 1 and at most 4
 --     tests-agree     two answers that go through the same tests agree, if they agree where a test refuses, and where a recipe is accepted
 use Prim.Native.Nat.{ℕ, zero, suc, _+_, _/_, _≤_, _<_}
-use mathlib.Core.Bool.{Bool, true, false, cond, _||_, false≢true}
+use mathlib.Core.Bool.{Bool, true, false, cond, _||_, _&&_, false≢true}
 use mathlib.Core.List.{List, [], _∷_}
 use mathlib.Core.Path.{_≡_, refl, sym, ap, _∙_}
 use native.Mathlib.Omega.{arith}
@@ -20,9 +20,8 @@ use Rattle.recipes.specs.declared.types.Refusal.{Refusal}
 use Rattle.recipes.specs.declared.types.Refusal.the-variants.{NoSuchNumber, OntoItself, TooManyLines, WidthLine}
 use Rattle.recipes.specs.declared.reader.LineRead.{LineRead}
 use Rattle.recipes.specs.declared.reader.LineRead.the-variants.{Read, Slip}
-use Rattle.recipes.specs.Recipe.{takesTwo, isCopy, target, isWidth, recipeLines, copyChecked, pairChecked, checkedOf, Names, Accepted}
+use Rattle.recipes.specs.Recipe.{isNothing, isCopy, target, isWidth, recipeLines, checkedOf, Names, Accepted}
 use Rattle.recipes.specs.Listing.{unlessSlip, linesPass, tested}
-use Rattle.recipes.specs.Printer.{isNothing}
 
 -- ---- lines
 
@@ -44,60 +43,36 @@ no-read e = false≢true (ap isRead e)
 
 pub checked-names : (n : ℕ) (l m : Line) → checkedOf n l ≡ Read m → Names n l
 unfolding checkedOf
-checked-names n l m e = first (leb n (l .a)) refl (takesTwo (l .verb)) refl e
+checked-names n l m e = go (leb n (l .a)) refl (leb n (target l)) refl (isCopy (l .verb)) refl (eqb (l .a) (target l)) refl e
   where
-    copies : (t : Bool) → isCopy (l .verb) ≡ t → (u : Bool) → eqb (l .a) (l .b) ≡ u → cond t (cond u (Slip OntoItself) (Read l)) (Read l) ≡ Read m
-        → l .verb ≡ Copy → l .a ≡ l .b → ⊥
-    copies true c true s e is same = no-read e
-    copies true c false s e is same = eqb-false (l .a) (l .b) s same
-    copies false c u s e is same = false≢true (sym c ∙ ap isCopy is)
-
-    second : (t : Bool) → leb n (l .b) ≡ t → l .a < n → takesTwo (l .verb) ≡ true
-        → cond t (Slip NoSuchNumber) (cond (isCopy (l .verb)) (copyChecked l) (Read l)) ≡ Read m → Names n l
-    second true h a two e = absurd (no-read e)
-    second false h a two e =
-        record {
-          source = a;
-          goal = rw two (leb-false n (l .b) h);
-          apart = rw two (copies (isCopy (l .verb)) refl (eqb (l .a) (l .b)) refl e);
-        }
-
-    first : (t : Bool) → leb n (l .a) ≡ t → (u : Bool) → takesTwo (l .verb) ≡ u
-        → cond t (Slip NoSuchNumber) (cond u (pairChecked n l) (Read l)) ≡ Read m → Names n l
-    first true h u two e = absurd (no-read e)
-    first false h true two e = second (leb n (l .b)) refl (leb-false n (l .a) h) two e
-    first false h false two e =
-        record {
-          source = leb-false n (l .a) h;
-          goal = rw two (leb-false n (l .a) h);
-          apart = λ is same. false≢true (sym two ∙ ap takesTwo is);
-        }
+    go : (t : Bool) → leb n (l .a) ≡ t → (u : Bool) → leb n (target l) ≡ u → (c : Bool) → isCopy (l .verb) ≡ c → (s : Bool) → eqb (l .a) (target l) ≡ s
+        → cond (t || u) (Slip NoSuchNumber) (cond (c && s) (Slip OntoItself) (Read l)) ≡ Read m → Names n l
+    go true h u i c d s j e = absurd (no-read e)
+    go false h true i c d s j e = absurd (no-read e)
+    go false h false i true d true j e = absurd (no-read e)
+    go false h false i true d false j e = record { source = leb-false n (l .a) h; goal = leb-false n (target l) i; apart = λ is. eqb-false (l .a) (target l) j }
+    go false h false i false d s j e =
+        record { source = leb-false n (l .a) h; goal = leb-false n (target l) i; apart = λ is same. false≢true (sym d ∙ ap isCopy is) }
 
 -- a line that is read past them is read as it stands
 pub checked-same : (n : ℕ) (l m : Line) → checkedOf n l ≡ Read m → l ≡ m
 unfolding checkedOf
-checked-same n l m e = first (leb n (l .a)) (takesTwo (l .verb)) (leb n (l .b)) (isCopy (l .verb)) (eqb (l .a) (l .b)) e
+checked-same n l m e = go (leb n (l .a) || leb n (target l)) (isCopy (l .verb) && eqb (l .a) (target l)) e
   where
-    first : (t u v c s : Bool) → cond t (Slip NoSuchNumber) (cond u (cond v (Slip NoSuchNumber) (cond c (cond s (Slip OntoItself) (Read l)) (Read l))) (Read l)) ≡ Read m → l ≡ m
-    first true u v c s e = absurd (no-read e)
-    first false true true c s e = absurd (no-read e)
-    first false true false true true e = absurd (no-read e)
-    first false true false true false e = ap (lineIn l) e
-    first false true false false s e = ap (lineIn l) e
-    first false false v c s e = ap (lineIn l) e
+    go : (t u : Bool) → cond t (Slip NoSuchNumber) (cond u (Slip OntoItself) (Read l)) ≡ Read m → l ≡ m
+    go true u e = absurd (no-read e)
+    go false true e = absurd (no-read e)
+    go false false e = ap (lineIn l) e
 
 -- and a slip is one: it has a number
 pub checked-slip : (n : ℕ) (l : Line) (k : Refusal) → checkedOf n l ≡ Slip k → isNothing k ≡ false
 unfolding checkedOf
-checked-slip n l k e = first (leb n (l .a)) (takesTwo (l .verb)) (leb n (l .b)) (isCopy (l .verb)) (eqb (l .a) (l .b)) e
+checked-slip n l k e = go (leb n (l .a) || leb n (target l)) (isCopy (l .verb) && eqb (l .a) (target l)) e
   where
-    first : (t u v c s : Bool) → cond t (Slip NoSuchNumber) (cond u (cond v (Slip NoSuchNumber) (cond c (cond s (Slip OntoItself) (Read l)) (Read l))) (Read l)) ≡ Slip k → isNothing k ≡ false
-    first true u v c s e = sym (ap slipIn e)
-    first false true true c s e = sym (ap slipIn e)
-    first false true false true true e = sym (ap slipIn e)
-    first false true false true false e = absurd (no-read (sym e))
-    first false true false false s e = absurd (no-read (sym e))
-    first false false v c s e = absurd (no-read (sym e))
+    go : (t u : Bool) → cond t (Slip NoSuchNumber) (cond u (Slip OntoItself) (Read l)) ≡ Slip k → isNothing k ≡ false
+    go true u e = sym (ap slipIn e)
+    go false true e = sym (ap slipIn e)
+    go false false e = absurd (no-read (sym e))
 
 is-copy : (v : Verb) → isCopy v ≡ true → v ≡ Copy
 is-copy Clear e = absurd (false≢true e)
@@ -113,19 +88,11 @@ is-copy Up e = absurd (false≢true e)
 -- a line that names numbers passes
 pub names-checked : (n : ℕ) (l : Line) → Names n l → checkedOf n l ≡ Read l
 unfolding checkedOf
-names-checked n l h = rw (lt-leb n (l .a) (h .source)) (second (takesTwo (l .verb)) refl)
+names-checked n l h = rw (lt-leb n (l .a) (h .source), lt-leb n (target l) (h .goal)) (go (isCopy (l .verb)) refl)
   where
-    third : (t : Bool) → isCopy (l .verb) ≡ t → takesTwo (l .verb) ≡ true → cond t (copyChecked l) (Read l) ≡ Read l
-    third true c e =
-        let apart : l .a ≡ l .b → ⊥ = λ same. h .apart (is-copy (l .verb) c) (rw e same) in
-        rw (ne-eqb (l .a) (l .b) apart)
-    third false c e = refl
-
-    second : (t : Bool) → takesTwo (l .verb) ≡ t → cond t (pairChecked n l) (Read l) ≡ Read l
-    second true e =
-        let goal : l .b < n = rw e at (h .goal) in
-        rw (lt-leb n (l .b) goal) (third (isCopy (l .verb)) refl e)
-    second false e = refl
+    go : (c : Bool) → isCopy (l .verb) ≡ c → cond (c && eqb (l .a) (target l)) (Slip OntoItself) (Read l) ≡ Read l
+    go true d = rw (ne-eqb (l .a) (target l) (h .apart (is-copy (l .verb) d)))
+    go false d = refl
 
 -- ---- recipes
 

@@ -27,10 +27,9 @@ use Rattle.recipes.specs.declared.reader.Digit.the-variants.{Is, Bad}
 use Rattle.recipes.specs.declared.reader.VerbRead.{VerbRead}
 use Rattle.recipes.specs.declared.reader.VerbRead.the-variants.{Known, Unknown}
 use Rattle.recipes.specs.Text.{ascii, sameBytes, before, after}
-use Rattle.recipes.specs.Recipe.{takesTwo, isWidth, recipeLines, unused, checkedOf, Names, Accepted}
+use Rattle.recipes.specs.Recipe.{isNothing, takesTwo, isWidth, recipeLines, unused, checkedOf, Names, Accepted}
 use Rattle.recipes.specs.Reader.{padded, accepted, refusedAt, verbOf, digitOf, onlyDigit, withOne, withTwo, oneOf, twoOf, fieldsOf, thenChecked, lineOf, endOf, orSlip, linesOf, widthDigit, widthLine, fromFirst, readOf}
 use Rattle.recipes.specs.Listing.{linesPass, listingOf, stepsOf, over, listed, translateOf}
-use Rattle.recipes.specs.Printer.{isNothing}
 use Rattle.recipes.proofs.Accepting.{no-read, checked-names, checked-same, checked-slip, names-checked}
 
 -- ---- a slip has a number
@@ -139,18 +138,13 @@ lines-sound w ls row (next ∷ more) i h a =
             choose (no k) = omega arith
 
 -- the width line
-abbrev chosen : (one two four : Bool) → ℕ
-chosen one two four = cond one 1 (cond two 2 (cond four 4 0))
-
 digit-width : (d : Digit) → (widthDigit d ≡ 0 → ⊥) → isWidth (widthDigit d) ≡ true
 digit-width Bad n = absurd (n refl)
-digit-width (Is d) n = go (eqb d 1) (eqb d 2) (eqb d 4) n
+digit-width (Is d) n = go (isWidth d) refl n
   where
-    go : (s t u : Bool) → (chosen s t u ≡ 0 → ⊥) → isWidth (chosen s t u) ≡ true
-    go true t u n = refl
-    go false true u n = refl
-    go false false true n = refl
-    go false false false n = absurd (n refl)
+    go : (t : Bool) → isWidth d ≡ t → (cond t d 0 ≡ 0 → ⊥) → isWidth (cond t d 0) ≡ true
+    go true e n = e
+    go false e n = absurd (n refl)
 
 line-width : (row : List ℕ) → (widthLine row ≡ 0 → ⊥) → isWidth (widthLine row) ≡ true
 unfolding widthLine

@@ -41,7 +41,7 @@ pub determined : List Fixed
 determined = fixed number.Learnt (one-equation _) ∷ fixed translate-array.Learnt (one-equation _) ∷ []
 
 pub written-parts : (p p′ : List ℕ) (r r′ : ℕ) → written p r ≡ written p′ r′ → (p ≡ p′) × (r ≡ r′)
-written-parts p p′ r r′ e = (ap (λ (w : Written). w .bytes) e, ap (λ (w : Written). w .next) e)
+written-parts p p′ r r′ e = (ap (λ (w : Written). w .bytes) e, ap (λ (w : Written). w .length) e)
 
 pub translated-parts : (t t′ : Translated) (s s′ : List Step) → translated t s ≡ translated t′ s′ → (t ≡ t′) × (s ≡ s′)
 translated-parts t t′ s s′ e =
@@ -55,13 +55,13 @@ module _ {M : Type 1} (𝓤 : URA M) (H : Heap 𝓤) (A : Atoms 𝓤) (mem : Mem
   translate-determined κs a = record { of = translateOf (a .0) (now (a .1 .0)); is = λ r e. refl }
 
   pub print-determined : (κs : Lfts 1) (a : Args print.signature κs) → OneExit 𝓤 (λ r e. written (now (e .1 .1 .1 .0)) r) (print.clauses 𝓤 H A mem go κs a .ensures tt)
-  print-determined κs a = record { of = writing (now (a .1 .1 .1 .0)) 0 (listingText (a .0) (take (a .1 .1 .0) (a .1 .0))); is = λ r e. refl }
+  print-determined κs a = record { of = writing (now (a .1 .1 .1 .0)) (listingText (a .0) (take (a .1 .1 .0) (a .1 .0))); is = λ r e. refl }
 
   pub print-refusal-determined : (κs : Lfts 1) (a : Args print-refusal.signature κs) → OneExit 𝓤 (λ r e. written (now (e .1 .1 .0)) r) (print-refusal.clauses 𝓤 H A mem go κs a .ensures tt)
-  print-refusal-determined κs a = record { of = writing (now (a .1 .1 .0)) 0 (refusalText (a .0) (a .1 .0)); is = λ r e. refl }
+  print-refusal-determined κs a = record { of = writing (now (a .1 .1 .0)) (refusalText (a .0) (a .1 .0)); is = λ r e. refl }
 
   pub print-recipe-determined : (κs : Lfts 1) (a : Args print-recipe.signature κs) → OneExit 𝓤 (λ r e. written (now (e .1 .0)) r) (print-recipe.clauses 𝓤 H A mem go κs a .ensures tt)
-  print-recipe-determined κs a = record { of = writing (now (a .1 .0)) 0 (printedOf (a .0)); is = λ r e. refl }
+  print-recipe-determined κs a = record { of = writing (now (a .1 .0)) (printedOf (a .0)); is = λ r e. refl }
 
   pub answer-determined : (κs : Lfts 2) (a : Args answer.signature κs) → OneExit 𝓤 (λ r e. written (now (e .1 .0)) r) (answer.clauses 𝓤 H A mem go κs a .ensures tt)
-  answer-determined κs a = record { of = writing (now (a .1 .0)) 0 (answerOf (now (a .0))); is = λ r e. refl }
+  answer-determined κs a = record { of = writing (now (a .1 .0)) (answerOf (now (a .0))); is = λ r e. refl }

@@ -1,14 +1,14 @@
 -- How long printed texts are: the program's buffer of 20,480 bytes has room for any of them, whatever steps stand in a listing. Assumes nothing.
 --     answer-short    the program's answer to any text
 --     whole-written   so what is written is the whole text
-use Prim.Native.Nat.{ℕ, zero, suc, _+_, _*_, _/_, _%_, _≤_, _<_, min, max}
+use Prim.Native.Nat.{ℕ, zero, suc, _+_, _*_, _/_, _%_, _≤_, min, _-_}
 use mathlib.Core.Bool.{Bool, true, false, cond}
 use mathlib.Core.List.{List, [], _∷_, _++_}
 use mathlib.Core.Path.{_≡_, refl, sym, ap, _∙_}
 use native.Mathlib.Omega.{arith}
 use lib.Dec.{ltb}
-use lib.ListN.{length, take, drop, length-append, length-take, length-replicate}
-use lib.Seq.{sets, sets-eq, take-at}
+use lib.ListN.{length, take, drop, length-append, length-take, length-drop}
+use lib.Seq.{take-at, take-all, length-take-le}
 use Rattle.io.specs.Counts.{Counts}
 use Rattle.alu.specs.declared.types.Size.{Size}
 use Rattle.alu.specs.declared.types.Size.the-variants.{Byte, Word, Long}
@@ -35,14 +35,12 @@ use Rattle.recipes.specs.declared.types.Recipe.{Recipe}
 use Rattle.recipes.specs.declared.types.Refusal.{Refusal}
 use Rattle.recipes.specs.declared.types.Listing.{Listing}
 use Rattle.recipes.specs.declared.types.Reading.{Reading}
-use Rattle.recipes.specs.Text.{Written, reach, written, writing, decimalIn, decimalOf}
-use Rattle.recipes.specs.Recipe.{numberOf}
+use Rattle.recipes.specs.Text.{Written, written, writing, decimalIn, decimalOf}
+use Rattle.recipes.specs.Recipe.{numberOf, isNothing}
 use Rattle.recipes.specs.Reader.{readOf}
 use Rattle.recipes.specs.Listing.{translateOf, blanks}
-use Rattle.recipes.specs.Printer.{twoName, addressName, quickName, oneName, shiftName, bitName, operationText, sizeText, registerText, countText, sourceText, destinationText, stepText, stepsText, clocksOf, listingText, refusalText, isNothing, listingPrinted, printedOf, readingPrinted, answerOf}
-use Rattle.recipes.specs.Making.{Wrote}
+use Rattle.recipes.specs.Printer.{twoName, addressName, quickName, oneName, shiftName, bitName, operationText, sizeText, registerText, countText, sourceText, destinationText, stepText, stepsText, clocksOf, listingText, refusalText, listingPrinted, printedOf, readingPrinted, answerOf}
 use Rattle.recipes.proofs.Settling.{blanks-count}
-use Rattle.recipes.proofs.Writing.{counts}
 
 -- ---- parts of a line
 
@@ -194,17 +192,20 @@ answer-short text = go (isNothing (readOf text .refusal))
 
 -- ---- what is written
 
--- what was written from 0 on is a count of the slice
-pub counted : (o s p : List ℕ) (r : ℕ) → written p r ≡ writing o 0 s → Counts r p
+-- what was written is a count of the slice
+pub counted : (o s p : List ℕ) (r : ℕ) → written p r ≡ writing o s → Counts r p
 unfolding writing
 counted o s p r e =
-    let v : Wrote o 0 s p r = record { bytes = ap (λ (w : Written). w .bytes) e; next = ap (λ (w : Written). w .next) e } in
-    counts v
+    let bytes : p ≡ take (length o) s ++ drop (length s) o = ap (λ (w : Written). w .bytes) e in
+    let next : r ≡ min (length s) (length o) = ap (λ (w : Written). w .length) e in
+    let long : length p ≡ min (length o) (length s) + (length o - length s) = ap length bytes ∙ rw (length-append, length-take, length-drop) in
+    let h : r ≤ length p = omega arith in
+    (h, sym (length-take-le r p h))
 
-pub whole-written : (o s p : List ℕ) (r : ℕ) → written p r ≡ writing o 0 s → length s ≤ length o → take r p ≡ s
+pub whole-written : (o s p : List ℕ) (r : ℕ) → written p r ≡ writing o s → length s ≤ length o → take r p ≡ s
 unfolding writing
 whole-written o s p r e h =
-    let bytes : p ≡ sets o 0 s = ap (λ (w : Written). w .bytes) e in
-    let next : r ≡ reach 0 (length s) (length o) = ap (λ (w : Written). w .next) e in
-    let all : r ≡ length s = omega arith in
-    rw (bytes, sets-eq s o 0 (omega arith)) (take-at s (drop (0 + length s) o) r (sym all))
+    let bytes : p ≡ take (length o) s ++ drop (length s) o = ap (λ (w : Written). w .bytes) e in
+    let next : r ≡ min (length s) (length o) = ap (λ (w : Written). w .length) e in
+    let all : length s ≡ r = omega arith in
+    rw (bytes, take-all (length o) s h) (take-at s (drop (length s) o) r all)

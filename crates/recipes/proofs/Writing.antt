@@ -1,7 +1,7 @@
 -- Laws of writing: what one writer leaves and the next goes on from. Assumes nothing.
 --     then            one text, and another behind it
---     counts, exactly what was written from 0 on: where it ends; and that it is the whole text where there is room for it
---     decimal-text    what `io::decimal` writes is `decimalOf`; `decimal-short`: at most 20 bytes
+--     as-one          what was written from 0 on, as the promise of a public printer says it
+--     decimal-text    what `io::decimal` writes is `decimalOf`
 use Prim.Native.Nat.{ℕ, zero, suc, _+_, _-_, _*_, _/_, _%_, _^_, _≤_, _<_, min, max, zero-le, suc-le-suc}
 use mathlib.Core.Bool.{Bool, true, false, cond}
 use mathlib.Core.List.{List, [], _∷_, _++_, append-nil, append-assoc, map}
@@ -13,11 +13,10 @@ use native.Mathlib.Omega.{arith}
 use borrow.Author.Tests.{lt-ltb, le-ltb}
 use lib.Dec.{lit<, lit≤, ltb}
 use lib.ListN.{length, set, take, drop, length-append, length-map}
-use lib.Seq.{sets, length-sets, length-take-le, set-out}
-use Rattle.io.specs.Counts.{Counts}
+use lib.Seq.{sets, length-sets, length-take-le, set-out, take-nil, set-append-seam, append-snoc}
 use Rattle.io.specs.Digits.{glyph, digits, Fewest}
-use Rattle.recipes.specs.Text.{reach, written, writing, decimalIn, decimalOf}
-use Rattle.recipes.specs.Making.{Wrote}
+use Rattle.recipes.specs.Text.{written, writing, decimalIn, decimalOf}
+use Rattle.recipes.specs.Making.{reach, Wrote}
 
 -- past the end nothing is stored
 sets-out : (l : List ℕ) (i : ℕ) (vs : List ℕ) → length l ≤ i → sets l i vs ≡ l
@@ -28,10 +27,20 @@ sets-append : (l : List ℕ) (i : ℕ) (xs ys : List ℕ) → sets l i (xs ++ ys
 sets-append l i [] ys = rw add-zero
 sets-append l i (x ∷ xs) ys = rw (add-suc, ← suc-add) (sets-append (set l i x) (suc i) xs ys)
 
--- the promise of a public writer: the same as one equation
-pub as-one : {o s p : List ℕ} {at r : ℕ} → Wrote o at s p r → written p r ≡ writing o at s
+-- from a place on, and so from the front on
+sets-behind : (p l vs : List ℕ) → sets (p ++ l) (length p) vs ≡ p ++ (take (length l) vs ++ drop (length vs) l)
+sets-behind p l [] = let none : take {A = ℕ} (length l) [] ≡ [] = take-nil (length l) in rw none
+sets-behind p [] (v ∷ vs) = rw append-nil (sets-out p (length p) (v ∷ vs) (omega arith))
+sets-behind p (x ∷ l) (v ∷ vs) =
+    let next : suc (length p) ≡ length (p ++ (v ∷ [])) = rw length-append (omega arith) in
+    rw (set-append-seam p x l v, ← append-snoc p v l, next) (sets-behind (p ++ (v ∷ [])) l vs ∙ append-assoc p (v ∷ []) (take (length l) vs ++ drop (length vs) l))
+
+-- the promise of a public printer, as one equation
+pub as-one : {o s p : List ℕ} {r : ℕ} → Wrote o 0 s p r → written p r ≡ writing o s
 unfolding writing
-as-one v = ap₂ written (v .bytes) (v .next)
+as-one {o} {s} {p} {r} v =
+    let e = v .next in
+    ap₂ written (v .bytes ∙ sets-behind [] o s) (omega arith)
 
 -- writers keep a slice's length
 pub wrote-length : {o s p : List ℕ} {at r : ℕ} → Wrote o at s p r → length p ≡ length o
@@ -40,14 +49,6 @@ wrote-length {o} {s} {p} {at} {r} v = ap length (v .bytes) ∙ length-sets o at 
 -- nothing is written
 pub wrote-none : (o : List ℕ) (at : ℕ) → Wrote o at [] o at
 wrote-none o at = record { bytes = refl; next = omega arith }
-
--- what was written from 0 on is a count of the slice
-pub counts : {o p s : List ℕ} {r : ℕ} → Wrote o 0 s p r → Counts r p
-counts {o} {p} {s} {r} v =
-    let same = wrote-length v in
-    let e = v .next in
-    let h : r ≤ length p = omega arith in
-    (h, sym (length-take-le r p h))
 
 -- one text, and another behind it
 pub then : {o p q s t : List ℕ} {at r m : ℕ} → Wrote o at s p r → Wrote p r t q m → Wrote o at (s ++ t) q m

@@ -3,7 +3,7 @@
 use mathlib.Core.Path.{_≡_}
 use mathlib.Core.Bool.{Bool, cond}
 use mathlib.Core.List.{List, []}
-use Prim.Native.Nat.{ℕ, _+_, _-_, _*_, _/_, _≤_, _<_}
+use Prim.Native.Nat.{ℕ, _+_, _-_, _*_, _/_, _≤_, _<_, min, max}
 use lib.Dec.{ltb}
 use lib.ListN.{length, take, drop}
 use lib.Seq.{sets}
@@ -15,7 +15,7 @@ use Rattle.recipes.specs.declared.types.Refusal.{Refusal}
 use Rattle.recipes.specs.declared.types.Refusal.the-variants.{Nothing, NoSpace}
 use Rattle.recipes.specs.declared.types.Translated.{Translated}
 use Rattle.recipes.specs.declared.types.Listing.{Listing}
-use Rattle.recipes.specs.Text.{before, after, parts, reach}
+use Rattle.recipes.specs.Text.{before, after, parts}
 use Rattle.recipes.specs.Recipe.{recipeLines, Names, Accepted}
 use Rattle.recipes.specs.Listing.{firstStep, otherStep, withClr, highestFirst, stepsAt, stepsOf, linesPass, tested}
 
@@ -34,8 +34,14 @@ pub record First (b : ℕ) (xs : List ℕ) (i : ℕ) : Type 0 where
   pub none : length xs ≤ i → after b xs ≡ []
   pub whole : length xs ≤ i → before b xs ≡ xs
 
--- ---- writing: what `writing` of Text says, with its two parts by name
+-- ---- writing
 
+-- the place after n bytes from `at` on, in a slice of length `room`
+abbrev pub reach : (at n room : ℕ) → ℕ
+reach at n room = max at (min (at + n) room)
+
+-- A text is stored from `at` on, as far as there is room, and the rest of the slice stays; r is the next place. (`sets` stores element by element, and
+-- a store past the end changes nothing.)
 pub record Wrote (old : List ℕ) (at : ℕ) (text : List ℕ) (out : List ℕ) (r : ℕ) : Type 0 where
   pub bytes : out ≡ sets old at text
   pub next : r ≡ reach at (length text) (length old)

@@ -1,6 +1,6 @@
 -- What is printed, as lists of bytes: document 01, the end of "Refusal numbers". Assumes nothing.
 use Prim.Native.Nat.{ℕ, suc, _+_}
-use mathlib.Core.Bool.{Bool, true, false, cond}
+use mathlib.Core.Bool.{false, cond}
 use mathlib.Core.List.{List, [], _∷_, _++_}
 use lib.ListN.{length, take, replicate}
 use Rattle.alu.specs.declared.types.Size.{Size}
@@ -28,11 +28,10 @@ use Rattle.step.specs.declared.steps.Step.{Step}
 use Rattle.step.specs.Perform.{performOf}
 use Rattle.recipes.specs.declared.types.Recipe.{Recipe}
 use Rattle.recipes.specs.declared.types.Refusal.{Refusal}
-use Rattle.recipes.specs.declared.types.Refusal.the-variants.{Nothing, WidthLine, Syntax, NoSuchNumber, OntoItself, TooManyLines, NoSpace}
 use Rattle.recipes.specs.declared.types.Listing.{Listing}
 use Rattle.recipes.specs.declared.types.Reading.{Reading}
 use Rattle.recipes.specs.Text.{ascii, decimalOf}
-use Rattle.recipes.specs.Recipe.{numberOf}
+use Rattle.recipes.specs.Recipe.{numberOf, isNothing}
 use Rattle.recipes.specs.Reader.{readOf}
 use Rattle.recipes.specs.Listing.{translateOf, blanks}
 
@@ -42,7 +41,7 @@ tab = 9 ∷ []
 abbrev pub newline : List ℕ
 newline = 10 ∷ []
 
--- a number as a field behind others
+-- a tab and a number
 abbrev pub fieldOf : ℕ → List ℕ
 fieldOf n = 9 ∷ decimalOf n
 
@@ -151,8 +150,8 @@ unfoldable pub stepsText : (place : ℕ) → List Step → List ℕ
 stepsText place [] = []
 stepsText place (k ∷ ks) = stepText place k ++ stepsText (suc place) ks
 
--- A step's clock figure, as the step machine gives it from cleared registers and flags. (A step of a recipe's listing has this figure in every state:
--- `figure-same` of proofs/Figures)
+-- A step's clock figure, as the step machine gives it from cleared registers and flags. A step of an accepted recipe's listing has this figure in every
+-- state (`listing-legal`, `figure-same` of proofs/Legal). Of any other step it is the figure at rest: 0 where it is refused, a register's count as 0
 abbrev pub atRest : State
 atRest = record { d = replicate 8 0; a = replicate 8 0; flags = record { x = false; n = false; z = false; v = false; c = false } }
 
@@ -175,25 +174,16 @@ listingText w steps =
 unfoldable pub refusalText : Refusal → (line : ℕ) → List ℕ
 refusalText k line = ascii "refused" ++ (fieldOf (numberOf k) ++ (fieldOf line ++ newline))
 
-abbrev pub isNothing : Refusal → Bool
-isNothing Nothing = true
-isNothing WidthLine = false
-isNothing Syntax = false
-isNothing NoSuchNumber = false
-isNothing OntoItself = false
-isNothing TooManyLines = false
-isNothing NoSpace = false
-
--- a recipe's listing in 256 slots, or its refusal
 abbrev pub listingPrinted : (w : ℕ) → Listing → List ℕ
 listingPrinted w l = cond (isNothing (l .refusal)) (listingText w (take (l .count) (l .steps))) (refusalText (l .refusal) (l .line))
 
+-- a recipe's listing in 256 slots, or its refusal
 unfoldable pub printedOf : Recipe → List ℕ
 printedOf r = listingPrinted (r .width) (translateOf r blanks)
 
--- what the program prints for a text
 abbrev pub readingPrinted : Reading → List ℕ
 readingPrinted r = cond (isNothing (r .refusal)) (printedOf (r .recipe)) (refusalText (r .refusal) (r .line))
 
+-- what the program prints for a text
 unfoldable pub answerOf : List ℕ → List ℕ
 answerOf text = readingPrinted (readOf text)

@@ -1,13 +1,12 @@
 -- What recipe text means: document 01, "Recipes" and "Refusal numbers". A text is any list of bytes. Assumes nothing.
 use Prim.Native.Nat.{ℕ, _+_, _-_, _/_}
-use mathlib.Core.Bool.{Bool, true, false, cond}
+use mathlib.Core.Bool.{cond}
 use mathlib.Core.List.{List, [], _∷_, _++_}
 use lib.Dec.{eqb, ltb}
 use lib.ListN.{length, getD, replicate}
 use Rattle.recipes.specs.declared.types.Verb.{Verb}
 use Rattle.recipes.specs.declared.types.Verb.the-variants.{Clear, Copy, Add, Sub, Neg, Not, Halve, Down, Up}
 use Rattle.recipes.specs.declared.types.Line.{Line}
-use Rattle.recipes.specs.declared.types.Recipe.{Recipe}
 use Rattle.recipes.specs.declared.types.Reading.{Reading}
 use Rattle.recipes.specs.declared.types.Refusal.{Refusal}
 use Rattle.recipes.specs.declared.types.Refusal.the-variants.{Nothing, WidthLine, Syntax, TooManyLines}
@@ -18,7 +17,7 @@ use Rattle.recipes.specs.declared.reader.Digit.the-variants.{Is, Bad}
 use Rattle.recipes.specs.declared.reader.LineRead.{LineRead}
 use Rattle.recipes.specs.declared.reader.LineRead.the-variants.{Read, Slip}
 use Rattle.recipes.specs.Text.{ascii, sameBytes, before, after}
-use Rattle.recipes.specs.Recipe.{takesTwo, unused, checkedOf}
+use Rattle.recipes.specs.Recipe.{takesTwo, isWidth, unused, checkedOf}
 
 -- ---- answers
 
@@ -30,6 +29,7 @@ readingOf refusal line width count lines =
 abbrev pub padded : List Line → List Line
 padded ls = ls ++ replicate (32 - length ls) unused
 
+-- a recipe of width w with the lines ls
 abbrev pub accepted : (w : ℕ) → List Line → Reading
 accepted w ls = readingOf Nothing 0 w (length ls) (padded ls)
 
@@ -111,7 +111,8 @@ abbrev pub orSlip : LineRead → (line : ℕ) → (Line → Reading) → Reading
 orSlip (Slip k) line go = refusedAt k line
 orSlip (Read l) line go = go l
 
--- the text's parts at byte 10, row and then more, behind the lines ls: on each line in turn 8, then 5, 6, 7
+-- ls are the lines read so far; row and more are the rest of the text, parted at byte 10, so that a row with a part behind it is a whole line. On each
+-- line in turn 8, then 5, 6, 7
 unfoldable pub linesOf : (w : ℕ) → List Line → (row : List ℕ) → (more : List (List ℕ)) → Reading
 linesOf w ls row [] = endOf w ls row
 linesOf w ls row (next ∷ more) =
@@ -122,7 +123,7 @@ linesOf w ls row (next ∷ more) =
 
 -- the width that a digit gives, and 0 where it gives none
 abbrev pub widthDigit : Digit → ℕ
-widthDigit (Is d) = cond (eqb d 1) 1 (cond (eqb d 2) 2 (cond (eqb d 4) 4 0))
+widthDigit (Is d) = cond (isWidth d) d 0
 widthDigit Bad = 0
 
 unfoldable pub widthLine : List ℕ → ℕ

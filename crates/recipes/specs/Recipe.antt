@@ -1,6 +1,6 @@
--- Recipes: document 01, "Recipes" and "Refusal numbers". What a line may be, by number and by verb. Assumes nothing.
+-- Recipes: document 01, "Recipes" and "Refusal numbers". What a line may hold. Assumes nothing.
 use Prim.Native.Nat.{ℕ, _/_, _<_}
-use mathlib.Core.Bool.{Bool, true, false, cond, _||_}
+use mathlib.Core.Bool.{Bool, true, false, cond, _||_, _&&_}
 use mathlib.Core.List.{List, [], _∷_}
 use mathlib.Core.Path.{_≡_}
 use lib.Dec.{eqb, leb}
@@ -23,6 +23,9 @@ numberOf NoSuchNumber = 6
 numberOf OntoItself = 7
 numberOf TooManyLines = 8
 numberOf NoSpace = 9
+
+abbrev pub isNothing : Refusal → Bool
+isNothing k = eqb (numberOf k) 0
 
 -- whether a verb takes two numbers
 abbrev pub takesTwo : Verb → Bool
@@ -62,17 +65,13 @@ recipeLines r = take (r .count) (r .lines)
 abbrev pub unused : Line
 unused = record { verb = Clear; a = 0; b = 0 }
 
--- a line of a recipe of n numbers: 6 where it names no number, then 7 where it copies a number onto itself
-abbrev pub copyChecked : Line → LineRead
-copyChecked l = cond (eqb (l .a) (l .b)) (Slip OntoItself) (Read l)
-
-abbrev pub pairChecked : (n : ℕ) → Line → LineRead
-pairChecked n l = cond (leb n (l .b)) (Slip NoSuchNumber) (cond (isCopy (l .verb)) (copyChecked l) (Read l))
-
+-- a line of a recipe of n numbers: 6 where it names none of them, then 7 where it copies a number onto itself
 unfoldable pub checkedOf : (n : ℕ) → Line → LineRead
-checkedOf n l = cond (leb n (l .a)) (Slip NoSuchNumber) (cond (takesTwo (l .verb)) (pairChecked n l) (Read l))
+checkedOf n l =
+    cond (leb n (l .a) || leb n (target l)) (Slip NoSuchNumber)
+    (cond (isCopy (l .verb) && eqb (l .a) (target l)) (Slip OntoItself) (Read l))
 
--- the same as a property: the line names numbers, and copies none onto itself (`checked-names` of proofs/Accepting)
+-- the same as a property: a line that passes names numbers, and copies none onto itself (`checked-names` and `names-checked` of proofs/Accepting)
 pub record Names (n : ℕ) (l : Line) : Type 0 where
   pub source : l .a < n
   pub goal : target l < n

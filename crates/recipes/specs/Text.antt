@@ -1,12 +1,11 @@
 -- Texts as lists of bytes: how a byte parts a text, decimal numbers, and what it is to write a text into a lent slice. Assumes nothing.
-use Prim.Native.Nat.{ℕ, zero, suc, _+_, _/_, _%_, min, max}
+use Prim.Native.Nat.{ℕ, zero, suc, _+_, _/_, _%_, min}
 use Prim.Native.Char.{code}
 use Prim.Native.String.{String, [] as none, _∷_ as _then_}
 use mathlib.Core.Bool.{Bool, true, false, cond, _&&_}
 use mathlib.Core.List.{List, [], _∷_, _++_}
 use lib.Dec.{eqb, ltb}
-use lib.ListN.{length}
-use lib.Seq.{sets}
+use lib.ListN.{length, take, drop}
 
 -- the bytes of an ASCII text
 abbrev pub ascii : String → List ℕ
@@ -47,19 +46,14 @@ decimalOf n = decimalIn 20 n
 
 -- ---- writing
 
--- what a writer leaves: the slice, and the place after what it wrote
+-- what a printer leaves: the slice that it was lent, and how many bytes it wrote
 pub record Written : Type 0 where
   pub bytes : List ℕ
-  pub next : ℕ
+  pub length : ℕ
 
 abbrev pub written : List ℕ → ℕ → Written
-written bytes next = record { bytes = bytes; next = next }
+written bytes n = record { bytes = bytes; length = n }
 
--- the place after n bytes at `at`, where there is so much room
-abbrev pub reach : (at n room : ℕ) → ℕ
-reach at n room = max at (min (at + n) room)
-
--- A text is stored from `at` on, as far as there is room, and the slice is else as it was. (`sets` stores element by element, and a store past the
--- end changes nothing.)
-unfoldable pub writing : (old : List ℕ) → (at : ℕ) → (text : List ℕ) → Written
-writing old at text = written (sets old at text) (reach at (length text) (length old))
+-- a text stands at the front of the slice, as much of it as there is room for, and what is behind it stays
+unfoldable pub writing : (old : List ℕ) → (text : List ℕ) → Written
+writing old text = written (take (length old) text ++ drop (length text) old) (min (length text) (length old))

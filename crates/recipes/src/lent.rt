@@ -2,6 +2,7 @@
 ghost use mathlib.Core.Path.{_≡_};
 ghost use Rattle.recipes.specs.Listing.{translated, translateOf};
 ghost use Rattle.recipes.specs.Making.{settledOf};
+use super::translator::refused;
 use super::translator::translate_array;
 use super::types::Listing;
 use super::types::Recipe;
@@ -31,11 +32,7 @@ fn settle(made: Listing, len: usize) -> Translated
 {
     let refusal = made.refusal;
     if len < made.count {
-        return Translated {
-            refusal: Refusal::NoSpace,
-            line: 0,
-            count: 0,
-        };
+        return refused(Refusal::NoSpace, 0);
     }
     Translated {
         refusal,

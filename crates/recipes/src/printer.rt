@@ -1,5 +1,5 @@
-// Printing a listing or a refusal into a lent slice, and the program's whole answer to a text. A printed field stands
-// behind a tab.
+// Printing a listing or a refusal into a lent slice, and the program's whole answer to a text. A printer answers how
+// many bytes it wrote; what has no room is left off.
 ghost use mathlib.Core.Path.{_≡_};
 ghost use Prim.Native.Nat.{_<_, _^_};
 ghost use mathlib.Core.Bool.{cond};
@@ -8,7 +8,7 @@ ghost use lib.ListN.{take};
 ghost use Rattle.recipes.specs.Text.{written, writing};
 ghost use Rattle.recipes.specs.Making.{Wrote};
 ghost use Rattle.recipes.specs.Printer.{twoName, addressName, quickName, oneName, shiftName, bitName, operationText, sizeText, registerText, countText, sourceText, destinationText, stepText, stepsText};
-ghost use Rattle.recipes.specs.Printer.{atRest, figureOf, clocksOf, listingText, refusalText, isNothing, printedOf, answerOf};
+ghost use Rattle.recipes.specs.Printer.{atRest, figureOf, clocksOf, listingText, refusalText, printedOf, answerOf};
 use super::reader::read;
 use super::text::NEWLINE;
 use super::text::TAB;
@@ -19,6 +19,7 @@ use super::text::put_number;
 use super::translator::translate_array;
 use super::types::Recipe;
 use super::types::Refusal;
+use super::types::is_nothing;
 use super::types::number;
 use alu::bit_manip::BitOp;
 use alu::shift_rotate::ShiftOp;
@@ -208,7 +209,7 @@ fn put_steps(out: &mut [u8], at: usize, steps: [Step; 256], count: usize) -> usi
     next
 }
 
-// A state with nothing in it.
+// All registers 0, all flags clear.
 fn at_rest() -> State
     ensures { λ r. ⌜ r ≡ atRest ⌝ }
 {
@@ -257,9 +258,9 @@ fn lesser(a: usize, b: usize) -> usize
     if a < b { a } else { b }
 }
 
-// Prints the first `count` steps of a listing; a count above 256 means all 256. It answers the length of what it wrote.
+// Prints the first `count` steps of a listing; a count above 256 means all 256.
 pub fn print(width: u8, steps: [Step; 256], count: usize, out: &mut [u8]) -> usize
-    ensures { λ r. ⌜ written (now (out .exit)) r ≡ writing (now (out .entry)) 0 (listingText width (take count steps)) ⌝ }
+    ensures { λ r. ⌜ written (now (out .exit)) r ≡ writing (now (out .entry)) (listingText width (take count steps)) ⌝ }
 {
     let many = lesser(count, 256);
     let sum = clocks(steps, count);
@@ -275,7 +276,7 @@ pub fn print(width: u8, steps: [Step; 256], count: usize, out: &mut [u8]) -> usi
 
 // Prints a refusal: `refused`, its number and its line.
 pub fn print_refusal(refusal: Refusal, line: usize, out: &mut [u8]) -> usize
-    ensures { λ r. ⌜ written (now (out .exit)) r ≡ writing (now (out .entry)) 0 (refusalText refusal line) ⌝ }
+    ensures { λ r. ⌜ written (now (out .exit)) r ≡ writing (now (out .entry)) (refusalText refusal line) ⌝ }
 {
     let n = number(refusal);
     let next = put_bytes(out, 0, b"refused");
@@ -284,23 +285,9 @@ pub fn print_refusal(refusal: Refusal, line: usize, out: &mut [u8]) -> usize
     put_byte(out, next, NEWLINE)
 }
 
-fn is_nothing(refusal: Refusal) -> bool
-    ensures { λ r. ⌜ r ≡ isNothing refusal ⌝ }
-{
-    match refusal {
-        Refusal::Nothing => true,
-        Refusal::WidthLine => false,
-        Refusal::Syntax => false,
-        Refusal::NoSuchNumber => false,
-        Refusal::OntoItself => false,
-        Refusal::TooManyLines => false,
-        Refusal::NoSpace => false,
-    }
-}
-
 // Prints a recipe's listing, or why it has none.
 pub fn print_recipe(recipe: Recipe, out: &mut [u8]) -> usize
-    ensures { λ r. ⌜ written (now (out .exit)) r ≡ writing (now (out .entry)) 0 (printedOf recipe) ⌝ }
+    ensures { λ r. ⌜ written (now (out .exit)) r ≡ writing (now (out .entry)) (printedOf recipe) ⌝ }
 {
     let width = recipe.width;
     let made = translate_array(recipe);
@@ -315,7 +302,7 @@ pub fn print_recipe(recipe: Recipe, out: &mut [u8]) -> usize
 
 // What the program `recipe` prints for a text.
 pub fn answer(text: &[u8], out: &mut [u8]) -> usize
-    ensures { λ r. ⌜ written (now (out .exit)) r ≡ writing (now (out .entry)) 0 (answerOf (now (text .entry))) ⌝ }
+    ensures { λ r. ⌜ written (now (out .exit)) r ≡ writing (now (out .entry)) (answerOf (now (text .entry))) ⌝ }
 {
     let reading = read(text);
     let refusal = reading.refusal;

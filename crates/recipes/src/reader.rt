@@ -18,7 +18,9 @@ use super::types::Recipe;
 use super::types::Refusal;
 use super::types::Verb;
 use super::types::is_copy;
+use super::types::is_width;
 use super::types::takes_two;
+use super::types::target;
 
 // What a word in the verb's place is.
 pub(crate) enum VerbRead {
@@ -32,7 +34,7 @@ pub(crate) enum Digit {
     Bad,
 }
 
-// What a line of a recipe is: a line, or its slip.
+// What a text line is read as: a recipe line, or why it is none.
 pub(crate) enum LineRead {
     Read(Line),
     Slip(Refusal),
@@ -48,6 +50,7 @@ fn or_verb(word: &[u8], name: &[u8], verb: Verb, other: VerbRead) -> VerbRead
     other
 }
 
+// No two names are the same, so that the order doesn't matter.
 fn verb_of(word: &[u8]) -> VerbRead
     ensures { λ r. ⌜ r ≡ verbOf (now (word .entry)) ⌝ }
 {
@@ -139,23 +142,18 @@ fn read_fields(row: &[u8]) -> LineRead
     }
 }
 
-// A line as it may stand in a recipe of so many numbers, or why it may not. The translator asks it too.
+// A line as it may stand in a recipe of so many numbers, or why it may not. The translator calls it too.
 pub(crate) fn check_line(numbers: u8, line: Line) -> LineRead
     ensures { λ r. ⌜ r ≡ checkedOf numbers line ⌝ }
 {
     let verb = line.verb;
-    if numbers <= line.a {
+    let copies = is_copy(verb);
+    let goal = target(line);
+    if (numbers <= line.a) | (numbers <= goal) {
         return LineRead::Slip(Refusal::NoSuchNumber);
     }
-    if takes_two(verb) {
-        if numbers <= line.b {
-            return LineRead::Slip(Refusal::NoSuchNumber);
-        }
-        if is_copy(verb) {
-            if line.a == line.b {
-                return LineRead::Slip(Refusal::OntoItself);
-            }
-        }
+    if copies & (line.a == goal) {
+        return LineRead::Slip(Refusal::OntoItself);
     }
     LineRead::Read(line)
 }
@@ -174,12 +172,7 @@ fn width_digit(digit: Digit) -> u8
     ensures { λ r. ⌜ r ≡ widthDigit digit ⌝ }
 {
     match digit {
-        Digit::Is(d) => match d {
-            1 => 1,
-            2 => 2,
-            4 => 4,
-            _ => 0,
-        },
+        Digit::Is(d) => { if is_width(d) { d } else { 0 } }
         Digit::Bad => 0,
     }
 }

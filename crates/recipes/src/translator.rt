@@ -3,7 +3,6 @@
 ghost use mathlib.Core.Path.{_≡_};
 ghost use Prim.Native.Nat.{_/_, _%_, _*_, _+_, _-_, _<_, _≤_};
 ghost use lib.ListN.{getD, take};
-ghost use Rattle.recipes.specs.Recipe.{isWidth, target};
 ghost use Rattle.recipes.specs.Listing.{one, two, shift, firstStep, otherStep, blank, blanks, stepsAt, highestFirst, lineSteps, listingOf, over, translateOf};
 ghost use Rattle.recipes.specs.Making.{refused, registerSteps, offsetOf, judgeOf, judgeLines, Ready, Spot};
 use super::reader::LineRead;
@@ -15,7 +14,8 @@ use super::types::Refusal;
 use super::types::Translated;
 use super::types::Verb;
 use super::types::is_copy;
-use super::types::takes_two;
+use super::types::is_width;
+use super::types::target;
 use alu::shift_rotate::ShiftOp;
 use alu::types::Size;
 use step::registers::D;
@@ -139,14 +139,6 @@ fn offset(verb: Verb, width: u8, index: u8) -> u8
     }
 }
 
-// The number that a line changes.
-fn target(line: Line) -> u8
-    ensures { λ r. ⌜ r ≡ target line ⌝ }
-{
-    let verb = line.verb;
-    if takes_two(verb) { line.b } else { line.a }
-}
-
 // Step j of a line is at the register taken at this index, and is this part of the steps there.
 fn index_of(verb: Verb, j: u8) -> u8
     ensures { λ r. ⌜ r ≡ j / stepsAt verb ⌝ }
@@ -184,13 +176,7 @@ fn steps_of(width: u8, verb: Verb) -> u8
     if is_copy(verb) { 2 * width } else { width }
 }
 
-fn is_width(width: u8) -> bool
-    ensures { λ r. ⌜ r ≡ isWidth width ⌝ }
-{
-    (width == 1) | (width == 2) | (width == 4)
-}
-
-fn refused(refusal: Refusal, line: usize) -> Translated
+pub(crate) fn refused(refusal: Refusal, line: usize) -> Translated
     ensures { λ r. ⌜ r ≡ refused refusal line ⌝ }
 {
     Translated {

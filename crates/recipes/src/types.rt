@@ -1,6 +1,6 @@
 // What a recipe is, why one is refused, and what its reader and its translator answer.
 ghost use mathlib.Core.Path.{_≡_};
-ghost use Rattle.recipes.specs.Recipe.{numberOf, takesTwo, isCopy};
+ghost use Rattle.recipes.specs.Recipe.{numberOf, isNothing, takesTwo, isCopy, target, isWidth};
 use step::steps::Step;
 
 pub enum Verb {
@@ -22,7 +22,7 @@ pub struct Line {
     pub b: u8,
 }
 
-// The first `count` of `lines` are the recipe's; the reader makes the others `clear 0`.
+// The first `count` of `lines` are the recipe's, at most 32; the reader makes the others `clear 0`.
 pub struct Recipe {
     pub width: u8,
     pub count: usize,
@@ -48,8 +48,8 @@ pub struct Reading {
     pub recipe: Recipe,
 }
 
-// What the translator says: its refusal, the text line of that, and the number of steps, 0 where it refuses. The
-// lines of a recipe made by hand count as the text lines 2 and on; a refusal that is of no line has 0.
+// What the translator says: its refusal, the text line of that, and the number of steps, 0 where it refuses. Line k,
+// from 0, counts as text line k + 2 and the width as line 1; too many lines and too little room have line 0.
 pub struct Translated {
     pub refusal: Refusal,
     pub line: usize,
@@ -77,6 +77,12 @@ pub fn number(refusal: Refusal) -> u8
         Refusal::TooManyLines => 8,
         Refusal::NoSpace => 9,
     }
+}
+
+pub(crate) fn is_nothing(refusal: Refusal) -> bool
+    ensures { λ r. ⌜ r ≡ isNothing refusal ⌝ }
+{
+    number(refusal) == 0
 }
 
 pub(crate) fn takes_two(verb: Verb) -> bool
@@ -109,4 +115,18 @@ pub(crate) fn is_copy(verb: Verb) -> bool
         Verb::Down => false,
         Verb::Up => false,
     }
+}
+
+// The number that a line changes.
+pub(crate) fn target(line: Line) -> u8
+    ensures { λ r. ⌜ r ≡ target line ⌝ }
+{
+    let verb = line.verb;
+    if takes_two(verb) { line.b } else { line.a }
+}
+
+pub(crate) fn is_width(width: u8) -> bool
+    ensures { λ r. ⌜ r ≡ isWidth width ⌝ }
+{
+    (width == 1) | (width == 2) | (width == 4)
 }

@@ -1,13 +1,17 @@
 -- `recipes::lent::settle` meets its contract: its test is the definition's. Assumes nothing.
+use borrow.Author.Needs.{needs}
 use borrow.Author.Tests.{lt-ltb, le-ltb}
 use Rattle.recipes.proofs.lent.settle.Statement.{statement}
 use Rattle.recipes.proofs.lent.settle.Tie as tie
 
+refused-requires : tie.Need-refused-requires
+refused-requires c κs = search needs
+
 returns : tie.Need-returns
-returns c = rw (lt-ltb _ _ (c .if1 .taken))
+returns c = rw (lt-ltb _ _ (c .before .if1 .taken)) (c .refused .ensures)
 
 returns-2 : tie.Need-returns-2
 returns-2 c = rw (le-ltb _ _ (c .if1 .left))
 
 pub settle-spec : {M : Type 1} → statement M
-settle-spec = tie.close (tie.spec returns returns-2)
+settle-spec = tie.close (tie.spec refused-requires returns returns-2)

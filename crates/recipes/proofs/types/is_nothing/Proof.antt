@@ -1,0 +1,13 @@
+-- `recipes::types::is_nothing` meets its contract: it asks for the number. Assumes nothing.
+use borrow.Author.Needs.{needs}
+use Rattle.recipes.proofs.types.is_nothing.Statement.{statement}
+use Rattle.recipes.proofs.types.is_nothing.Tie as tie
+
+number-requires : tie.Need-number-requires
+number-requires c κs = search needs
+
+returns : tie.Need-returns
+returns c = rw (c .number .ensures)
+
+pub is-nothing-spec : {M : Type 1} → statement M
+is-nothing-spec = tie.close (tie.spec number-requires returns)
