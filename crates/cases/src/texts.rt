@@ -1,14 +1,22 @@
 // Document 01's cases of recipe texts: what is printed, byte for byte, and each refusal with its line.
+ghost use Rattle.io.specs.Counts.{Counts};
 use crate::tell::Tally;
 use crate::tell::told;
 use recipes::printer::answer;
 use recipes::reader::read;
 use recipes::types::number;
 
+// The answer to a text; it ends in the slice.
+fn answered(text: &[u8], out: &mut [u8; 20480]) -> usize
+    ensures { λ r. ⌜ Counts r (now (out .exit)) ⌝ }
+{
+    answer(text, out)
+}
+
 // A text, and all that the program prints for it.
 fn prints(t: Tally, name: &[u8], text: &[u8], want: &[u8]) -> Tally {
     let mut out = [0u8; 20480];
-    let n = answer(text, &mut out);
+    let n = answered(text, &mut out);
     told(t, name, check::same(&out[..n], want))
 }
 

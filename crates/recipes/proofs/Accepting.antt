@@ -4,14 +4,13 @@
 --     names-checked   and one that does so passes
 --     width-is        a width is at least 1 and at most 4
 --     tests-agree     two answers that go through the same tests agree, if they agree where a test refuses, and where a recipe is accepted
-use Prim.Native.Nat.{ℕ, zero, suc, _+_, _/_, _≤_, _<_}
+use Prim.Native.Nat.{ℕ, suc, _/_, _≤_, _<_}
 use mathlib.Core.Bool.{Bool, true, false, cond, _||_, _&&_, false≢true}
 use mathlib.Core.List.{List, [], _∷_}
 use mathlib.Core.Path.{_≡_, refl, sym, ap, _∙_}
 use native.Mathlib.Omega.{arith}
 use borrow.Author.Tests.{leb-true, leb-false, lt-leb, eqb-true, eqb-false, ne-eqb}
 use lib.Dec.{eqb, leb}
-use lib.ListN.{take}
 use Rattle.recipes.specs.declared.types.Verb.{Verb}
 use Rattle.recipes.specs.declared.types.Verb.the-variants.{Clear, Copy, Add, Sub, Neg, Not, Halve, Down, Up}
 use Rattle.recipes.specs.declared.types.Line.{Line}

@@ -2,15 +2,14 @@
 --     read-sound        an accepted text's recipe has a width, at most 32 lines, and lines that name numbers
 --     read-translates   so its translation is its listing
 use Prim.Native.Nat.{ℕ, suc, _+_, _-_, _/_, _≤_, _<_}
-use mathlib.Core.Bool.{Bool, true, false, cond, _||_, false≢true}
+use mathlib.Core.Bool.{Bool, true, false, cond, false≢true}
 use mathlib.Core.List.{List, [], _∷_, _++_}
-use mathlib.Core.Path.{_≡_, refl, sym, ap, _∙_, subst}
-use native.Mathlib.Nat.{le-refl}
+use mathlib.Core.Path.{_≡_, refl, sym, _∙_, subst}
 use native.Mathlib.Decide.{decLe}
 use native.Mathlib.Omega.{arith}
 use borrow.Author.Tests.{le-leb, eqb-false}
-use lib.Dec.{eqb, leb}
-use lib.ListN.{length, take, length-append, length-take, replicate}
+use lib.Dec.{eqb}
+use lib.ListN.{length, length-append, replicate}
 use lib.Seq.{take-append-seam}
 use Rattle.step.specs.declared.steps.Step.{Step}
 use Rattle.recipes.specs.declared.types.Verb.{Verb}
@@ -19,7 +18,6 @@ use Rattle.recipes.specs.declared.types.Reading.{Reading}
 use Rattle.recipes.specs.declared.types.Recipe.{Recipe}
 use Rattle.recipes.specs.declared.types.Refusal.{Refusal}
 use Rattle.recipes.specs.declared.types.Refusal.the-variants.{Nothing, Syntax, TooManyLines, WidthLine}
-use Rattle.recipes.specs.declared.types.Listing.{Listing}
 use Rattle.recipes.specs.declared.reader.LineRead.{LineRead}
 use Rattle.recipes.specs.declared.reader.LineRead.the-variants.{Read, Slip}
 use Rattle.recipes.specs.declared.reader.Digit.{Digit}
@@ -28,7 +26,7 @@ use Rattle.recipes.specs.declared.reader.VerbRead.{VerbRead}
 use Rattle.recipes.specs.declared.reader.VerbRead.the-variants.{Known, Unknown}
 use Rattle.recipes.specs.Text.{ascii, sameBytes, before, after}
 use Rattle.recipes.specs.Recipe.{isNothing, takesTwo, isWidth, recipeLines, unused, checkedOf, Names, Accepted}
-use Rattle.recipes.specs.Reader.{padded, accepted, refusedAt, verbOf, digitOf, onlyDigit, withOne, withTwo, oneOf, twoOf, fieldsOf, thenChecked, lineOf, endOf, orSlip, linesOf, widthDigit, widthLine, fromFirst, readOf}
+use Rattle.recipes.specs.Reader.{refusedAt, verbOf, digitOf, onlyDigit, withOne, withTwo, oneOf, twoOf, fieldsOf, thenChecked, lineOf, orSlip, linesOf, widthDigit, widthLine, fromFirst, readOf}
 use Rattle.recipes.specs.Listing.{linesPass, listingOf, stepsOf, over, listed, translateOf}
 use Rattle.recipes.proofs.Accepting.{no-read, checked-names, checked-same, checked-slip, names-checked}
 

@@ -1,6 +1,6 @@
 -- Laws of the translator's loop over the lines: one for each way that a turn goes. Assumes nothing.
 use Prim.Native.Nat.{ℕ, suc, _+_, _*_, _/_, _≤_, _<_}
-use mathlib.Core.List.{List, [], _∷_}
+use mathlib.Core.List.{List}
 use mathlib.Core.Path.{_≡_, refl, sym, ap, _∙_}
 use native.Mathlib.Omega.{arith}
 use lib.ListN.{length, take, drop, getD, drop-of-length-le}
@@ -8,12 +8,11 @@ use lib.Seq.{drop-cons, getD-take, length-take-le}
 use Rattle.recipes.specs.declared.types.Line.{Line}
 use Rattle.recipes.specs.declared.types.Refusal.{Refusal}
 use Rattle.recipes.specs.declared.types.Refusal.the-variants.{Nothing}
-use Rattle.recipes.specs.declared.reader.LineRead.{LineRead}
 use Rattle.recipes.specs.declared.reader.LineRead.the-variants.{Read, Slip}
 use Rattle.recipes.specs.Recipe.{unused, checkedOf}
 use Rattle.recipes.specs.Listing.{unlessSlip, linesPass, stepsAt, stepsOf}
 use Rattle.recipes.specs.Making.{told, refused, judgeLines}
-use Rattle.recipes.proofs.Steps.{steps-more, steps-at-most}
+use Rattle.recipes.proofs.Steps.{steps-more}
 
 module _ {R : Type 0} (refuse : Refusal → ℕ → R) (n : ℕ) where
   -- the lines from k on

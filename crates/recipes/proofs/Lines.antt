@@ -2,15 +2,15 @@
 use Prim.Native.Nat.{ℕ, suc, _+_, _-_, _/_, _≤_, _<_}
 use mathlib.Core.Bool.{Bool, true, false, cond}
 use mathlib.Core.List.{List, [], _∷_, _++_, append-assoc}
-use mathlib.Core.Path.{_≡_, refl, sym, ap, _∙_}
+use mathlib.Core.Path.{_≡_, refl}
 use native.Mathlib.Nat.{not-suc-le-zero}
 use native.Mathlib.Omega.{arith}
 use lib.Dec.{eqb}
-use lib.ListN.{length, set, replicate, length-append}
+use lib.ListN.{length, set, length-append}
 use lib.Seq.{set-append-seam}
 use borrow.Author.Tests.{eq-eqb, ne-eqb}
 use Rattle.recipes.specs.Text.{before, after, parts}
-use Rattle.recipes.specs.Reader.{padded, accepted, refusedAt, endOf, orSlip, lineOf, linesOf}
+use Rattle.recipes.specs.Reader.{padded, accepted, refusedAt, orSlip, lineOf, linesOf}
 use Rattle.recipes.specs.declared.types.Line.{Line}
 use Rattle.recipes.specs.declared.types.Refusal.the-variants.{Syntax, TooManyLines}
 

@@ -4,7 +4,7 @@
 use Prim.Native.Nat.{ℕ, zero, suc, _+_, _*_, _/_, _%_, _≤_, min, _-_}
 use mathlib.Core.Bool.{Bool, true, false, cond}
 use mathlib.Core.List.{List, [], _∷_, _++_}
-use mathlib.Core.Path.{_≡_, refl, sym, ap, _∙_}
+use mathlib.Core.Path.{_≡_, sym, ap, _∙_}
 use native.Mathlib.Omega.{arith}
 use lib.Dec.{ltb}
 use lib.ListN.{length, take, drop, length-append, length-take, length-drop}
@@ -33,13 +33,11 @@ use Rattle.step.specs.declared.steps.Form.the-variants.{Two, Address, Quick, On
 use Rattle.step.specs.declared.steps.Step.{Step}
 use Rattle.recipes.specs.declared.types.Recipe.{Recipe}
 use Rattle.recipes.specs.declared.types.Refusal.{Refusal}
-use Rattle.recipes.specs.declared.types.Listing.{Listing}
-use Rattle.recipes.specs.declared.types.Reading.{Reading}
 use Rattle.recipes.specs.Text.{Written, written, writing, decimalIn, decimalOf}
 use Rattle.recipes.specs.Recipe.{numberOf, isNothing}
 use Rattle.recipes.specs.Reader.{readOf}
 use Rattle.recipes.specs.Listing.{translateOf, blanks}
-use Rattle.recipes.specs.Printer.{twoName, addressName, quickName, oneName, shiftName, bitName, operationText, sizeText, registerText, countText, sourceText, destinationText, stepText, stepsText, clocksOf, listingText, refusalText, listingPrinted, printedOf, readingPrinted, answerOf}
+use Rattle.recipes.specs.Printer.{twoName, addressName, quickName, oneName, shiftName, bitName, operationText, sizeText, registerText, countText, sourceText, destinationText, stepText, stepsText, clocksOf, listingText, refusalText, printedOf, answerOf}
 use Rattle.recipes.proofs.Settling.{blanks-count}
 
 -- ---- parts of a line

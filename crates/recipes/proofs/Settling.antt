@@ -5,25 +5,24 @@
 --     blanks-count    a translation in an array has at most 256 steps
 --     settled-room    what is told of it for a row of slots has no more steps than the row
 --     settled-count   and no more than the array
-use Prim.Native.Nat.{ℕ, zero, suc, _+_, _*_, _≤_, _<_, min}
+use Prim.Native.Nat.{ℕ, _+_, _≤_, _<_, min}
 use mathlib.Core.Bool.{Bool, true, false, cond}
-use mathlib.Core.List.{List, [], _∷_, _++_}
-use mathlib.Core.Path.{_≡_, refl, sym, ap, ap₂, _∙_}
+use mathlib.Core.List.{List, _++_}
+use mathlib.Core.Path.{_≡_, refl, sym}
 use native.Mathlib.Omega.{arith}
 use borrow.Author.Tests.{le-leb, lt-leb, le-ltb, lt-ltb, ltb-false}
 use native.Mathlib.Decide.{decLe}
 use lib.Dec.{leb, ltb}
-use lib.ListN.{length, take, drop, length-take, length-replicate, length-append}
-use lib.Seq.{take-at, take-all, length-take-le}
+use lib.ListN.{length, take, drop, length-take, length-replicate}
+use lib.Seq.{take-at}
 use Rattle.step.specs.declared.steps.Step.{Step}
 use Rattle.recipes.specs.declared.types.Line.{Line}
 use Rattle.recipes.specs.declared.types.Recipe.{Recipe}
-use Rattle.recipes.specs.declared.types.Refusal.{Refusal}
 use Rattle.recipes.specs.declared.types.Refusal.the-variants.{Nothing, NoSpace}
 use Rattle.recipes.specs.declared.types.Translated.{Translated}
 use Rattle.recipes.specs.declared.types.Listing.{Listing}
 use Rattle.recipes.specs.Recipe.{recipeLines, Accepted}
-use Rattle.recipes.specs.Listing.{listingOf, stepsOf, over, listed, translateOf, translated, blank, blanks}
+use Rattle.recipes.specs.Listing.{listingOf, stepsOf, over, listed, translateOf, translated, blanks}
 use Rattle.recipes.specs.Making.{told, refused, judgeOf, Ready, settledOf}
 use Rattle.recipes.proofs.Steps.{listing-steps, listing-prefix, steps-most}
 use Rattle.recipes.proofs.Accepting.{tests-agree}

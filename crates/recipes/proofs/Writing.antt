@@ -2,8 +2,7 @@
 --     then            one text, and another behind it
 --     as-one          what was written from 0 on, as the promise of a public printer says it
 --     decimal-text    what `io::decimal` writes is `decimalOf`
-use Prim.Native.Nat.{ℕ, zero, suc, _+_, _-_, _*_, _/_, _%_, _^_, _≤_, _<_, min, max, zero-le, suc-le-suc}
-use mathlib.Core.Bool.{Bool, true, false, cond}
+use Prim.Native.Nat.{ℕ, zero, suc, _+_, _-_, _*_, _/_, _%_, _^_, _≤_, _<_, zero-le, suc-le-suc}
 use mathlib.Core.List.{List, [], _∷_, _++_, append-nil, append-assoc, map}
 use mathlib.Core.Path.{_≡_, refl, sym, ap, ap₂, _∙_}
 use native.Mathlib.Nat.{add-zero, add-suc, suc-add, le-of-suc-le-suc, not-suc-le-zero, mod-eq-of-lt, mod-lt, pow-suc, pow-le-pow-right, div-lt-iff-lt-mul, le-div-iff-mul-le}
@@ -11,10 +10,10 @@ use native.Mathlib.Decide.{decLe}
 use native.Mathlib.Numerals.{sub-one}
 use native.Mathlib.Omega.{arith}
 use borrow.Author.Tests.{lt-ltb, le-ltb}
-use lib.Dec.{lit<, lit≤, ltb}
+use lib.Dec.{lit<}
 use lib.ListN.{length, set, take, drop, length-append, length-map}
-use lib.Seq.{sets, length-sets, length-take-le, set-out, take-nil, set-append-seam, append-snoc}
-use Rattle.io.specs.Digits.{glyph, digits, Fewest}
+use lib.Seq.{sets, length-sets, set-out, take-nil, set-append-seam, append-snoc}
+use Rattle.io.specs.Digits.{digits, Fewest}
 use Rattle.recipes.specs.Text.{written, writing, decimalIn, decimalOf}
 use Rattle.recipes.specs.Making.{reach, Wrote}
 

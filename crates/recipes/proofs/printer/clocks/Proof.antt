@@ -1,6 +1,6 @@
 -- `recipes::printer::clocks` meets its contract: a turn of the loop adds one figure. Assumes nothing.
 use Prim.Native.Nat.{_-_, _*_, _^_, _≤_, _<_}
-use mathlib.Core.Path.{_≡_, _∙_, ap₂, refl}
+use mathlib.Core.Path.{_≡_, refl}
 use native.Mathlib.Omega.{arith}
 use lib.Seq.{take-all}
 use lib.ListN.{length, take}

@@ -1,11 +1,6 @@
 -- `recipes::text::same` meets its contract: `check` compares the two, and `sameBytes` says the same.
 -- Assumes nothing.
-use Prim.Native.Nat.{ℕ}
-use mathlib.Core.Bool.{Bool, true, false}
-use mathlib.Core.List.{List}
-use mathlib.Core.Path.{_≡_, refl, sym}
 use borrow.Author.Needs.{needs}
-use Rattle.recipes.specs.Text.{sameBytes}
 use Rattle.recipes.proofs.Texts.{same-by}
 use Rattle.recipes.proofs.text.same.Statement.{statement}
 use Rattle.recipes.proofs.text.same.Tie as tie

@@ -1,5 +1,5 @@
 -- `recipes::translator::judge_lines` meets its contract: a turn of the loop passes or refuses one line, by the laws of Judging. Assumes nothing.
-use Prim.Native.Nat.{ℕ, _-_, _<_, _≤_}
+use Prim.Native.Nat.{_-_, _≤_}
 use mathlib.Core.Path.{_≡_, sym, _∙_}
 use native.Mathlib.Omega.{arith}
 use lib.ListN.{length}

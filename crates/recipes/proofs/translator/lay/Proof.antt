@@ -1,12 +1,9 @@
 -- `recipes::translator::lay` meets its contract: a turn of the loop lays out one step, by the laws of Laying. Assumes nothing.
-use Prim.Native.Nat.{ℕ, _-_, _<_}
-use mathlib.Core.List.{List}
+use Prim.Native.Nat.{_-_, _<_}
 use mathlib.Core.Path.{_≡_, sym, _∙_}
 use native.Mathlib.Omega.{arith}
-use lib.ListN.{length, take, getD}
+use lib.ListN.{length}
 use borrow.Author.Needs.{needs}
-use Rattle.step.specs.declared.steps.Step.{Step}
-use Rattle.recipes.specs.Listing.{listingOf, over, blanks}
 use Rattle.recipes.proofs.Writing.{mapped}
 use Rattle.recipes.proofs.Laying.{Laid, laid-none, line-there, spot-there, step-small, laid-step, laid-line}
 use Rattle.recipes.proofs.translator.lay.Statement.{statement}

@@ -1,7 +1,6 @@
 -- `recipes::translator::line_step` meets its contract: index and part of step j, by `line-at`. Assumes nothing.
-use Prim.Native.Nat.{_<_, _≤_, _+_, _*_}
-use mathlib.Core.Path.{_≡_, sym, _∙_}
-use native.Mathlib.Omega.{arith}
+use Prim.Native.Nat.{_≤_, _+_, _*_}
+use mathlib.Core.Path.{_∙_}
 use borrow.Author.Needs.{needs}
 use Rattle.recipes.specs.Listing.{stepsAt}
 use Rattle.recipes.proofs.Steps.{steps-at-most}

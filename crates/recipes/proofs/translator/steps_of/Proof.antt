@@ -1,6 +1,5 @@
 -- `recipes::translator::steps_of` meets its contract: a copy has two steps a word, any other verb one. Assumes nothing.
 use native.Mathlib.Nat.{one-mul}
-use native.Mathlib.Omega.{arith}
 use borrow.Author.Needs.{needs}
 use mathlib.Core.Path.{sym, _∙_}
 use Rattle.recipes.proofs.Words.{copy-steps, other-steps}
