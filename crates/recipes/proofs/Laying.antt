@@ -12,7 +12,7 @@ use Rattle.recipes.specs.Recipe.{unused, Names, Accepted}
 use Rattle.recipes.specs.Listing.{lineSteps, listingOf, stepsAt, stepsOf, over, blank, blanks}
 use Rattle.recipes.specs.Making.{Ready, Spot}
 use Rattle.recipes.proofs.Steps.{listing-steps, steps-at-most, steps-more, steps-prefix}
-use Rattle.recipes.proofs.Words.{listing-at}
+use Rattle.recipes.proofs.Places.{listing-at}
 
 -- one more step over a row
 over-next : (new old : List Step) (at : ℕ) → at < length new → at < length old → set (over (take at new) old) at (getD new at blank) ≡ over (take (suc at) new) old

@@ -18,7 +18,7 @@ use Rattle.recipes.specs.declared.types.Line.{Line}
 use Rattle.recipes.specs.Recipe.{isCopy, target, Names, Accepted}
 use Rattle.recipes.specs.Listing.{one, firstStep, otherStep, withClr, highestFirst, risingRest, fallingRest, rising, falling, lineSteps, listingOf}
 use Rattle.recipes.specs.Printer.{atRest, figureOf}
-use Rattle.recipes.proofs.Words.{number-fits}
+use Rattle.recipes.proofs.Places.{number-fits}
 
 abbrev pub All : (Step → Type 0) → List Step → Type 0
 All P [] = Unit {0}

@@ -4,7 +4,7 @@ pub mod Steps
 pub mod Accepting
 mod Settling
 mod Lines
-mod Words
+mod Places
 mod Judging
 mod Laying
 pub mod Agreeing

@@ -1,4 +1,4 @@
--- Laws of `linesOf`, one for each way that the reader's loop goes on, and of the padded that it fills. Assumes nothing.
+-- Laws of `linesOf`, one for each way that the reader's loop goes on, and of the slots that it fills. Assumes nothing.
 use Prim.Native.Nat.{ℕ, suc, _+_, _-_, _/_, _≤_, _<_}
 use mathlib.Core.Bool.{Bool, true, false, cond}
 use mathlib.Core.List.{List, [], _∷_, _++_, append-assoc}

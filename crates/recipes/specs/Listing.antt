@@ -64,7 +64,7 @@ otherStep Halve p q = shift Roxr q
 otherStep Down p q = shift Roxr q
 otherStep Up p q = shift Roxl q
 
--- a copy has a CLR before each
+-- the steps at one register: a copy has a CLR before its ADD
 abbrev pub withClr : Verb → (q : ℕ) → Step → List Step
 withClr v q k = cond (isCopy v) (one OneOp.Clr q ∷ k ∷ []) (k ∷ [])
 
@@ -82,7 +82,7 @@ highestFirst Up = false
 
 -- ---- a line: n registers from p and q on
 
--- all of them lowest first; those after the first
+-- lowest first: those after the first, and all of them
 unfoldable pub risingRest : Verb → (n p q : ℕ) → List Step
 risingRest v zero p q = []
 risingRest v (suc n) p q = withClr v q (otherStep v p q) ++ risingRest v n (suc p) (suc q)
@@ -91,7 +91,7 @@ abbrev pub rising : Verb → (n p q : ℕ) → List Step
 rising v zero p q = []
 rising v (suc n) p q = withClr v q (firstStep v p q) ++ risingRest v n (suc p) (suc q)
 
--- and highest first
+-- highest first
 unfoldable pub fallingRest : Verb → (n p q : ℕ) → List Step
 fallingRest v zero p q = []
 fallingRest v (suc n) p q = withClr v (q + n) (otherStep v (p + n) (q + n)) ++ fallingRest v n p q

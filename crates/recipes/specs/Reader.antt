@@ -25,7 +25,7 @@ abbrev pub readingOf : Refusal → (line width count : ℕ) → List Line → Re
 readingOf refusal line width count lines =
     record { refusal = refusal; line = line; recipe = record { width = width; count = count; lines = lines } }
 
--- a recipe of width w with the lines ls; the padded past them are `clear 0`
+-- lines, and `clear 0` in the slots past them
 abbrev pub padded : List Line → List Line
 padded ls = ls ++ replicate (32 - length ls) unused
 

@@ -65,7 +65,7 @@ recipeLines r = take (r .count) (r .lines)
 abbrev pub unused : Line
 unused = record { verb = Clear; a = 0; b = 0 }
 
--- a line of a recipe of n numbers: 6 where it names none of them, then 7 where it copies a number onto itself
+-- a line of a recipe of n numbers: 6 where it names a number that isn't there, then 7 where it copies a number onto itself
 unfoldable pub checkedOf : (n : ℕ) → Line → LineRead
 checkedOf n l =
     cond (leb n (l .a) || leb n (target l)) (Slip NoSuchNumber)

@@ -4,7 +4,7 @@ use mathlib.Core.Path.{_∙_}
 use borrow.Author.Needs.{needs}
 use Rattle.recipes.specs.Listing.{stepsAt}
 use Rattle.recipes.proofs.Steps.{steps-at-most}
-use Rattle.recipes.proofs.Words.{Cut, cut, line-at, number-fits}
+use Rattle.recipes.proofs.Places.{Cut, cut, line-at, number-fits}
 use Rattle.recipes.proofs.translator.line_step.Statement.{statement}
 use Rattle.recipes.proofs.translator.line_step.Tie as tie
 

@@ -1,7 +1,7 @@
 -- `recipes::translator::register_step` meets its contract: a copy's CLR, or the verb's own step. Assumes nothing.
 use mathlib.Core.Path.{_∙_}
 use borrow.Author.Needs.{needs}
-use Rattle.recipes.proofs.Words.{copy-clears, own-step}
+use Rattle.recipes.proofs.Places.{copy-clears, own-step}
 use Rattle.recipes.proofs.translator.register_step.Statement.{statement}
 use Rattle.recipes.proofs.translator.register_step.Tie as tie
 

@@ -2,7 +2,7 @@
 use native.Mathlib.Nat.{one-mul}
 use borrow.Author.Needs.{needs}
 use mathlib.Core.Path.{sym, _∙_}
-use Rattle.recipes.proofs.Words.{copy-steps, other-steps}
+use Rattle.recipes.proofs.Places.{copy-steps, other-steps}
 use Rattle.recipes.proofs.translator.steps_of.Statement.{statement}
 use Rattle.recipes.proofs.translator.steps_of.Tie as tie
 
