@@ -63,7 +63,7 @@ fn case(
     told(t, name, same_ran(got, want))
 }
 
-fn end_cases(t: Tally) -> Tally {
+fn budget_cases(t: Tally) -> Tally {
     let t = case(
         t,
         b"a listing to its end",
@@ -91,7 +91,7 @@ fn end_cases(t: Tally) -> Tally {
         4,
         ran(End::Budget, state(1, 0xffff_fff2, 8), 4, 4, 18),
     );
-    let t = case(
+    case(
         t,
         b"a budget of 0",
         add(),
@@ -99,7 +99,10 @@ fn end_cases(t: Tally) -> Tally {
         0,
         0,
         ran(End::Budget, state(1, 10, 0), 0, 0, 0),
-    );
+    )
+}
+
+fn empty_cases(t: Tally) -> Tally {
     let t = case(
         t,
         b"the greatest budget",
@@ -127,7 +130,7 @@ fn end_cases(t: Tally) -> Tally {
         0,
         ran(End::Finished, state(1, 10, 0), 0, 0, 0),
     );
-    let t = case(
+    case(
         t,
         b"a start in the middle",
         add(),
@@ -135,7 +138,10 @@ fn end_cases(t: Tally) -> Tally {
         3,
         100,
         ran(End::Finished, state(1, 0xffff_ffea, 25), 5, 2, 16),
-    );
+    )
+}
+
+fn start_cases(t: Tally) -> Tally {
     let t = case(
         t,
         b"a start at the end",
@@ -169,7 +175,7 @@ fn end_cases(t: Tally) -> Tally {
             0,
         ),
     );
-    let t = case(
+    case(
         t,
         b"10: far past the end, a budget of 0",
         add(),
@@ -183,7 +189,10 @@ fn end_cases(t: Tally) -> Tally {
             0,
             0,
         ),
-    );
+    )
+}
+
+fn count_cases(t: Tally) -> Tally {
     let t = case(
         t,
         b"10: past the end of an empty listing",
@@ -232,7 +241,7 @@ fn chk() -> Step {
     }
 }
 
-fn stop_cases(t: Tally) -> Tally {
+fn trap_cases(t: Tally) -> Tally {
     let t = case(
         t,
         b"a trap in the middle: counted, the next place after it",
@@ -260,7 +269,7 @@ fn stop_cases(t: Tally) -> Tally {
         2,
         ran(End::Budget, state(1, 12, 0), 2, 2, 8),
     );
-    let t = case(
+    case(
         t,
         b"a run continued after a trap",
         chk(),
@@ -268,7 +277,10 @@ fn stop_cases(t: Tally) -> Tally {
         3,
         100,
         ran(End::Finished, state(1, 0xffff_ffea, 25), 5, 2, 16),
-    );
+    )
+}
+
+fn refusal_cases(t: Tally) -> Tally {
     let t = case(
         t,
         b"3 in the middle: not counted, the next place is it",
@@ -305,7 +317,7 @@ fn stop_cases(t: Tally) -> Tally {
         100,
         ran(End::Refused(Fault::BadSmall, 2), state(1, 12, 0), 2, 2, 8),
     );
-    let t = case(
+    case(
         t,
         b"the budget spent before a refused step",
         long(Form::One(OneOp::Clr, D(8))),
@@ -313,7 +325,10 @@ fn stop_cases(t: Tally) -> Tally {
         0,
         2,
         ran(End::Budget, state(1, 12, 0), 2, 2, 8),
-    );
+    )
+}
+
+fn refusal_once_more(t: Tally) -> Tally {
     case(
         t,
         b"a refused step at the start, once more",
@@ -376,7 +391,12 @@ fn halt_cases(t: Tally) -> Tally {
 }
 
 pub(crate) fn all(t: Tally) -> Tally {
-    let t = end_cases(t);
-    let t = stop_cases(t);
+    let t = budget_cases(t);
+    let t = empty_cases(t);
+    let t = start_cases(t);
+    let t = count_cases(t);
+    let t = trap_cases(t);
+    let t = refusal_cases(t);
+    let t = refusal_once_more(t);
     halt_cases(t)
 }

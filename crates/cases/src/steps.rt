@@ -149,7 +149,7 @@ fn two_cases(t: Tally) -> Tally {
         state(0xffff_ffff, 0, 21),
         4,
     );
-    let t = done(
+    done(
         t,
         b"ADD.L of a register to itself: both are read first",
         Size::Long,
@@ -157,7 +157,10 @@ fn two_cases(t: Tally) -> Tally {
         state(0, 0x8000_0003, 0),
         state(0, 6, 19),
         4,
-    );
+    )
+}
+
+fn two_cases_2(t: Tally) -> Tally {
     let t = done(
         t,
         b"SUB.W D0,D1",
@@ -224,7 +227,7 @@ fn address_cases(t: Tally) -> Tally {
         with_a1(0x9000, 0, 0xffff_9000, 4),
         6,
     );
-    let t = done(
+    done(
         t,
         b"ADDQ.B #8 to a data register",
         Size::Byte,
@@ -232,7 +235,10 @@ fn address_cases(t: Tally) -> Tally {
         state(0, 0x12f8, 0),
         state(0, 0x1200, 21),
         4,
-    );
+    )
+}
+
+fn address_cases_2(t: Tally) -> Tally {
     let t = done(
         t,
         b"ADDQ.L has figure 8",
@@ -281,7 +287,7 @@ fn one_cases(t: Tally) -> Tally {
         state(0, 0x100, 4),
         4,
     );
-    let t = done(
+    done(
         t,
         b"NOT.B",
         Size::Byte,
@@ -289,7 +295,10 @@ fn one_cases(t: Tally) -> Tally {
         state(0, 0x1255, 16),
         state(0, 0x12aa, 24),
         4,
-    );
+    )
+}
+
+fn one_cases_2(t: Tally) -> Tally {
     done(
         t,
         b"EXT.W keeps the upper half",
@@ -329,7 +338,7 @@ fn shift_cases(t: Tally) -> Tally {
         state(64, 0x8001, 8),
         6,
     );
-    let t = done(
+    done(
         t,
         b"ROXL.W by the register that it shifts: 17 of 8011",
         Size::Word,
@@ -337,7 +346,10 @@ fn shift_cases(t: Tally) -> Tally {
         state(0, 0x8011, 16),
         state(0, 0x8011, 25),
         40,
-    );
+    )
+}
+
+fn shift_cases_2(t: Tally) -> Tally {
     let t = done(
         t,
         b"BSET by a register, 33 mod 32",
@@ -437,13 +449,16 @@ fn register_cases(t: Tally) -> Tally {
         Form::Address(AddressOp::Adda, Register::Address(A(8)), A(1)),
         Fault::NoSuchRegister,
     );
-    let t = refused(
+    refused(
         t,
         b"3: D8 as source of CMPA",
         Size::Word,
         Form::Address(AddressOp::Cmpa, Register::Data(D(8)), A(1)),
         Fault::NoSuchRegister,
-    );
+    )
+}
+
+fn register_cases_2(t: Tally) -> Tally {
     let t = refused(
         t,
         b"3: A8 as destination",
@@ -465,13 +480,16 @@ fn register_cases(t: Tally) -> Tally {
         Form::Quick(QuickOp::Subq, 1, Register::Address(A(8))),
         Fault::NoSuchRegister,
     );
-    let t = refused(
+    refused(
         t,
         b"3: NOT of D8",
         Size::Long,
         Form::One(OneOp::Not, D(8)),
         Fault::NoSuchRegister,
-    );
+    )
+}
+
+fn register_cases_3(t: Tally) -> Tally {
     let t = refused(
         t,
         b"3: a count in D8",
@@ -493,13 +511,16 @@ fn register_cases(t: Tally) -> Tally {
         Form::Bit(BitOp::Btst, Count::Data(D(8)), D(1)),
         Fault::NoSuchRegister,
     );
-    let t = refused(
+    refused(
         t,
         b"3: a bit of D8",
         Size::Long,
         Form::Bit(BitOp::Btst, Count::Small(1), D(8)),
         Fault::NoSuchRegister,
-    );
+    )
+}
+
+fn register_cases_4(t: Tally) -> Tally {
     let t = refused(
         t,
         b"3: CHK with a bound in D8",
@@ -538,13 +559,16 @@ fn size_cases(t: Tally) -> Tally {
         Form::Quick(QuickOp::Addq, 1, Register::Address(A(1))),
         Fault::NoSuchSize,
     );
-    let t = refused(
+    refused(
         t,
         b"2: EXT.B",
         Size::Byte,
         Form::One(OneOp::Ext, D(1)),
         Fault::NoSuchSize,
-    );
+    )
+}
+
+fn size_cases_2(t: Tally) -> Tally {
     let t = refused(
         t,
         b"2: BTST.B",
@@ -597,13 +621,16 @@ fn small_cases(t: Tally) -> Tally {
         Form::Shift(ShiftOp::Roxr, Count::Small(0), D(1)),
         Fault::BadSmall,
     );
-    let t = refused(
+    refused(
         t,
         b"1: ASL #9",
         Size::Byte,
         Form::Shift(ShiftOp::Asl, Count::Small(9), D(1)),
         Fault::BadSmall,
-    );
+    )
+}
+
+fn small_cases_2(t: Tally) -> Tally {
     let t = refused(
         t,
         b"1: BCLR #32",
@@ -625,13 +652,16 @@ fn small_cases(t: Tally) -> Tally {
         Form::One(OneOp::Ext, D(8)),
         Fault::NoSuchRegister,
     );
-    let t = refused(
+    refused(
         t,
         b"3 before 1: ADDQ #9 to D8",
         Size::Long,
         Form::Quick(QuickOp::Addq, 9, Register::Data(D(8))),
         Fault::NoSuchRegister,
-    );
+    )
+}
+
+fn small_cases_3(t: Tally) -> Tally {
     refused(
         t,
         b"3 before 2 before 1: SUBQ.B #0 to A8",
@@ -643,11 +673,21 @@ fn small_cases(t: Tally) -> Tally {
 
 pub(crate) fn all(t: Tally) -> Tally {
     let t = two_cases(t);
+    let t = two_cases_2(t);
     let t = address_cases(t);
+    let t = address_cases_2(t);
     let t = one_cases(t);
+    let t = one_cases_2(t);
     let t = shift_cases(t);
+    let t = shift_cases_2(t);
     let t = chk_cases(t);
     let t = register_cases(t);
+    let t = register_cases_2(t);
+    let t = register_cases_3(t);
+    let t = register_cases_4(t);
     let t = size_cases(t);
-    small_cases(t)
+    let t = size_cases_2(t);
+    let t = small_cases(t);
+    let t = small_cases_2(t);
+    small_cases_3(t)
 }
