@@ -32,7 +32,7 @@ use Rattle.recipes.proofs.Accepting.{no-read, checked-names, checked-sa
 
 -- ---- a slip has a number
 
-abbrev HasNumber : LineRead → Type 0
+abbrev pub HasNumber : LineRead → Type 0
 HasNumber (Slip k) = isNothing k ≡ false
 HasNumber (Read l) = Unit {0}
 
@@ -71,7 +71,7 @@ then-number : (n : ℕ) (c : LineRead) → HasNumber c → HasNumber (thenChecke
 then-number n (Slip k) h = h
 then-number n (Read l) h = checked-number n l
 
-line-number : (n : ℕ) (row : List ℕ) → HasNumber (lineOf n row)
+pub line-number : (n : ℕ) (row : List ℕ) → HasNumber (lineOf n row)
 unfolding lineOf
 line-number n row = then-number n (fieldsOf (verbOf (before 9 row)) (after 9 row)) (words-number (verbOf (before 9 row)) (after 9 row))
 

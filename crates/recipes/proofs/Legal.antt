@@ -12,6 +12,7 @@ use Rattle.step.specs.declared.steps.OneOp.the-variants.{Clr}
 use Rattle.step.specs.declared.steps.Step.{Step}
 use Rattle.step.specs.Perform.{performOf}
 use Rattle.step.proofs.Promises.{Legal, performs}
+use Rattle.step.proofs.Leading.{All}
 use Rattle.recipes.specs.declared.types.Verb.{Verb}
 use Rattle.recipes.specs.declared.types.Verb.the-variants.{Clear, Copy, Add, Sub, Neg, Not, Halve, Down, Up}
 use Rattle.recipes.specs.declared.types.Line.{Line}
@@ -19,10 +20,6 @@ use Rattle.recipes.specs.Recipe.{isCopy, target, Names, Accepted}
 use Rattle.recipes.specs.Listing.{one, firstStep, otherStep, withClr, highestFirst, risingRest, fallingRest, rising, falling, lineSteps, listingOf}
 use Rattle.recipes.specs.Printer.{atRest, figureOf}
 use Rattle.recipes.proofs.Places.{number-fits}
-
-abbrev pub All : (Step → Type 0) → List Step → Type 0
-All P [] = Unit {0}
-All P (k ∷ ks) = P k × All P ks
 
 both-legal : (ks ls : List Step) → All Legal ks → All Legal ls → All Legal (ks ++ ls)
 both-legal [] ls h t = t

@@ -8,7 +8,14 @@ mod Places
 mod Judging
 mod Laying
 pub mod Agreeing
+pub mod Cut
 pub mod Legal
 mod Printing
+mod Chain
+mod Registers
+mod Verbs
+mod Numbers
+mod Whole
+mod Wide
 pub mod Room
 pub mod Determined

@@ -3,4 +3,6 @@ pub mod Recipe
 pub mod Reader
 pub mod Listing
 pub mod Printer
+pub mod Rule
+pub mod Demand
 pub mod Making

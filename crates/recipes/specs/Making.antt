@@ -1,20 +1,24 @@
--- Terms of private functions' contracts: the search for a byte, writing, and the translator's parts. No promise of a public function names anything of this
+-- Terms of private functions' contracts: the search for a byte, writing, the translator's parts, and what a run tells of the flags. No promise of a public function names anything of this
 -- page, and a reader of the promises can leave it out. Assumes nothing.
 use mathlib.Core.Path.{_≡_}
-use mathlib.Core.Bool.{Bool, cond}
-use mathlib.Core.List.{List, []}
+use mathlib.Core.Bool.{Bool, true, false, cond}
+use mathlib.Core.List.{List, [], _∷_}
 use Prim.Native.Nat.{ℕ, _+_, _-_, _*_, _/_, _≤_, _<_, min, max}
 use lib.Dec.{ltb}
 use lib.ListN.{length, take, drop}
 use lib.Seq.{sets}
+use Rattle.alu.specs.declared.types.Flags.{Flags}
 use Rattle.step.specs.declared.steps.Step.{Step}
 use Rattle.recipes.specs.declared.types.Verb.{Verb}
+use Rattle.recipes.specs.declared.types.Verb.the-variants.{Clear, Copy, Add, Sub, Neg, Not, Halve, Down, Up}
 use Rattle.recipes.specs.declared.types.Line.{Line}
 use Rattle.recipes.specs.declared.types.Recipe.{Recipe}
 use Rattle.recipes.specs.declared.types.Refusal.{Refusal}
 use Rattle.recipes.specs.declared.types.Refusal.the-variants.{Nothing, NoSpace}
 use Rattle.recipes.specs.declared.types.Translated.{Translated}
 use Rattle.recipes.specs.declared.types.Listing.{Listing}
+use Rattle.recipes.specs.declared.types.Codes.{Codes}
+use Rattle.recipes.specs.declared.types.Codes.the-variants.{Open, Known}
 use Rattle.recipes.specs.Text.{before, after, parts}
 use Rattle.recipes.specs.Recipe.{recipeLines, Names, Accepted}
 use Rattle.recipes.specs.Listing.{firstStep, otherStep, withClr, highestFirst, stepsAt, stepsOf, linesPass, tested}
@@ -87,3 +91,26 @@ pub record Ready (w : ℕ) (lines : List Line) (count : ℕ) : Type 0 where
 -- a listing that was made in an array, for a row of so many slots
 abbrev pub settledOf : Listing → (room : ℕ) → Translated
 settledOf l room = cond (ltb room (l .count)) (refused NoSpace 0) (told (l .refusal) (l .line) (l .count))
+
+-- ---- what a run tells of the flags
+
+-- after these verbs all five
+abbrev pub tellsAll : Verb → Bool
+tellsAll Clear = false
+tellsAll Copy = false
+tellsAll Add = true
+tellsAll Sub = true
+tellsAll Neg = true
+tellsAll Not = false
+tellsAll Halve = false
+tellsAll Down = false
+tellsAll Up = false
+
+abbrev pub toldAfter : Verb → Flags → Codes
+toldAfter v f = cond (tellsAll v) (Known f) Open
+
+-- the last line decides; with no line the flags are as they were
+abbrev pub codesAfter : List Line → Flags → Codes
+codesAfter [] f = Known f
+codesAfter (l ∷ []) f = toldAfter (l .verb) f
+codesAfter (l ∷ m ∷ ls) f = codesAfter (m ∷ ls) f

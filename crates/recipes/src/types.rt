@@ -1,6 +1,7 @@
 // What a recipe is, why one is refused, and what its reader and its translator answer.
 ghost use mathlib.Core.Path.{_≡_};
 ghost use Rattle.recipes.specs.Recipe.{numberOf, isNothing, takesTwo, isCopy, target, isWidth};
+use alu::types::Flags;
 use step::steps::Step;
 
 pub enum Verb {
@@ -62,6 +63,26 @@ pub struct Listing {
     pub line: usize,
     pub count: usize,
     pub steps: [Step; 256],
+}
+
+// What is told of the flags after a recipe's last line: after add, sub and neg all five, which are those of the whole
+// number; after any other line document 01 promises X alone.
+pub enum Codes {
+    Open,
+    Known(Flags),
+}
+
+// What came of a recipe that was run: its refusal and the text line of that; the registers, X and what is told of the
+// other flags; the steps done and the sum of their figures. A refused recipe leaves the state as it was.
+pub struct RecipeRun {
+    pub refusal: Refusal,
+    pub line: usize,
+    pub d: [u32; 8],
+    pub a: [u32; 8],
+    pub x: bool,
+    pub codes: Codes,
+    pub steps: u32,
+    pub clocks: u64,
 }
 
 // The number of a refusal.

@@ -1,6 +1,7 @@
 pub mod Laws
 pub mod Sound
 pub mod Promises
+pub mod Leading
 mod Running
 mod Stepping
 pub mod Determined
