@@ -3,7 +3,8 @@
 --     checked-same, checked-slip   it is read as it stands, and a slip has a number
 --     names-checked   and one that does so passes
 --     width-is        a width is at least 1 and at most 4
---     tests-agree     two answers that go through the same tests agree, if they agree where a test refuses, and where a recipe is accepted
+--     Good            a recipe that passes all tests
+--     tests-agree     two answers that go through the same tests agree, if they agree where a test refuses, and where a recipe is good
 use Prim.Native.Nat.{ℕ, suc, _/_, _≤_, _<_}
 use mathlib.Core.Bool.{Bool, true, false, cond, _||_, _&&_, false≢true}
 use mathlib.Core.List.{List, [], _∷_}
@@ -107,29 +108,36 @@ width-is w e = go (eqb w 1) refl (eqb w 2) refl (eqb w 4) refl e
     go false h false i true j e = at 4 (omega arith) (omega arith) j
     go false h false i false j e = absurd (false≢true e)
 
-module _ {R S : Type 0} (P : R → S → Type 0) (refuse : Refusal → ℕ → R) (reject : Refusal → ℕ → S) (alike : (k : Refusal) (line : ℕ) → P (refuse k line) (reject k line)) where
-  lines-agree : (w line : ℕ) (ls : List Line) (go : R) (gone : S) → (Accepted w ls → P go gone) → P (linesPass refuse (8 / w) line ls go) (linesPass reject (8 / w) line ls gone)
-  unfolding linesPass
-  lines-agree w line [] go gone h = h tt
-  lines-agree w line (l ∷ ls) go gone h =
-      by (checkedOf (8 / w) l) (λ m e. lines-agree w (suc line) ls go gone (λ more. h (checked-names (8 / w) l m e, more)))
-    where
-      by : (c : LineRead) → ((m : Line) → c ≡ Read m → P (linesPass refuse (8 / w) (suc line) ls go) (linesPass reject (8 / w) (suc line) ls gone))
-          → P (unlessSlip refuse c line (linesPass refuse (8 / w) (suc line) ls go)) (unlessSlip reject c line (linesPass reject (8 / w) (suc line) ls gone))
-      by (Slip k) more = alike k line
-      by (Read m) more = more m refl
+-- a recipe that passes the tests
+pub record Good (r : Recipe) : Type 0 where
+  pub width : isWidth (r .width) ≡ true
+  pub few : r .count ≤ 32
+  pub lines : Accepted (r .width) (recipeLines r)
 
-  pub tests-agree : (r : Recipe) (go : R) (gone : S)
-      → ((0 < r .width) × (r .width ≤ 4) → r .count ≤ 32 → Accepted (r .width) (recipeLines r) → P go gone) → P (tested refuse r go) (tested reject r gone)
-  tests-agree r go gone h = width (isWidth (r .width)) refl
-    where
-      few : (t : Bool) → leb (r .count) 32 ≡ t → (0 < r .width) × (r .width ≤ 4)
-          → P (cond t (linesPass refuse (8 / r .width) 2 (recipeLines r) go) (refuse TooManyLines 0)) (cond t (linesPass reject (8 / r .width) 2 (recipeLines r) gone) (reject TooManyLines 0))
-      few true e w = lines-agree (r .width) 2 (recipeLines r) go gone (h w (leb-true (r .count) 32 e))
-      few false e w = alike TooManyLines 0
+module _ {R S : Type 0} (P : R → S → Type 0) (refuse : Refusal → ℕ → R) (reject : Refusal → ℕ → S)
+    (alike : (k : Refusal) (line : ℕ) → isNothing k ≡ false → P (refuse k line) (reject k line))
+  where
+    lines-agree : (w line : ℕ) (ls : List Line) (go : R) (gone : S) → (Accepted w ls → P go gone) → P (linesPass refuse (8 / w) line ls go) (linesPass reject (8 / w) line ls gone)
+    unfolding linesPass
+    lines-agree w line [] go gone h = h tt
+    lines-agree w line (l ∷ ls) go gone h =
+        by (checkedOf (8 / w) l) refl (λ m e. lines-agree w (suc line) ls go gone (λ more. h (checked-names (8 / w) l m e, more)))
+      where
+        by : (c : LineRead) → checkedOf (8 / w) l ≡ c → ((m : Line) → c ≡ Read m → P (linesPass refuse (8 / w) (suc line) ls go) (linesPass reject (8 / w) (suc line) ls gone))
+            → P (unlessSlip refuse c line (linesPass refuse (8 / w) (suc line) ls go)) (unlessSlip reject c line (linesPass reject (8 / w) (suc line) ls gone))
+        by (Slip k) e more = alike k line (checked-slip (8 / w) l k e)
+        by (Read m) e more = more m refl
 
-      width : (t : Bool) → isWidth (r .width) ≡ t
-          → P (cond t (cond (leb (r .count) 32) (linesPass refuse (8 / r .width) 2 (recipeLines r) go) (refuse TooManyLines 0)) (refuse WidthLine 1))
-          (cond t (cond (leb (r .count) 32) (linesPass reject (8 / r .width) 2 (recipeLines r) gone) (reject TooManyLines 0)) (reject WidthLine 1))
-      width true e = few (leb (r .count) 32) refl (width-is (r .width) e)
-      width false e = alike WidthLine 1
+    pub tests-agree : (r : Recipe) (go : R) (gone : S) → (Good r → P go gone) → P (tested refuse r go) (tested reject r gone)
+    tests-agree r go gone h = width (isWidth (r .width)) refl
+      where
+        few : (t : Bool) → leb (r .count) 32 ≡ t → isWidth (r .width) ≡ true
+            → P (cond t (linesPass refuse (8 / r .width) 2 (recipeLines r) go) (refuse TooManyLines 0)) (cond t (linesPass reject (8 / r .width) 2 (recipeLines r) gone) (reject TooManyLines 0))
+        few true e w = lines-agree (r .width) 2 (recipeLines r) go gone (λ a. h (record { width = w; few = leb-true (r .count) 32 e; lines = a }))
+        few false e w = alike TooManyLines 0 refl
+
+        width : (t : Bool) → isWidth (r .width) ≡ t
+            → P (cond t (cond (leb (r .count) 32) (linesPass refuse (8 / r .width) 2 (recipeLines r) go) (refuse TooManyLines 0)) (refuse WidthLine 1))
+            (cond t (cond (leb (r .count) 32) (linesPass reject (8 / r .width) 2 (recipeLines r) gone) (reject TooManyLines 0)) (reject WidthLine 1))
+        width true e = few (leb (r .count) 32) refl e
+        width false e = alike WidthLine 1 refl

@@ -7,17 +7,18 @@ use mathlib.Core.List.{List, [], _∷_, _++_}
 use mathlib.Core.Path.{_≡_, refl, sym, _∙_, subst}
 use native.Mathlib.Decide.{decLe}
 use native.Mathlib.Omega.{arith}
-use borrow.Author.Tests.{le-leb, eqb-false}
-use lib.Dec.{eqb}
+use borrow.Author.Tests.{le-leb, leb-true, eqb-false}
+use lib.Dec.{eqb, leb}
 use lib.ListN.{length, length-append, replicate}
 use lib.Seq.{take-append-seam}
 use Rattle.step.specs.declared.steps.Step.{Step}
 use Rattle.recipes.specs.declared.types.Verb.{Verb}
 use Rattle.recipes.specs.declared.types.Line.{Line}
+use Rattle.recipes.specs.declared.types.Listing.{Listing}
 use Rattle.recipes.specs.declared.types.Reading.{Reading}
 use Rattle.recipes.specs.declared.types.Recipe.{Recipe}
 use Rattle.recipes.specs.declared.types.Refusal.{Refusal}
-use Rattle.recipes.specs.declared.types.Refusal.the-variants.{Nothing, Syntax, TooManyLines, WidthLine}
+use Rattle.recipes.specs.declared.types.Refusal.the-variants.{Nothing, Syntax, TooManyLines, WidthLine, NoSpace}
 use Rattle.recipes.specs.declared.reader.LineRead.{LineRead}
 use Rattle.recipes.specs.declared.reader.LineRead.the-variants.{Read, Slip}
 use Rattle.recipes.specs.declared.reader.Digit.{Digit}
@@ -27,8 +28,8 @@ use Rattle.recipes.specs.declared.reader.VerbRead.the-variants.{Known, U
 use Rattle.recipes.specs.Text.{ascii, sameBytes, before, after}
 use Rattle.recipes.specs.Recipe.{isNothing, takesTwo, isWidth, recipeLines, unused, checkedOf, Names, Accepted}
 use Rattle.recipes.specs.Reader.{refusedAt, verbOf, digitOf, onlyDigit, withOne, withTwo, oneOf, twoOf, fieldsOf, thenChecked, lineOf, orSlip, linesOf, widthDigit, widthLine, fromFirst, readOf}
-use Rattle.recipes.specs.Listing.{linesPass, listingOf, stepsOf, over, listed, translateOf}
-use Rattle.recipes.proofs.Accepting.{no-read, checked-names, checked-same, checked-slip, names-checked}
+use Rattle.recipes.specs.Listing.{linesPass, tested, listingOf, stepsOf, over, listed, translateOf}
+use Rattle.recipes.proofs.Accepting.{Good, no-read, checked-names, checked-same, checked-slip, names-checked, tests-agree}
 
 -- ---- a slip has a number
 
@@ -86,12 +87,6 @@ unfolding lineOf
 line-names n row m e = then-names n (fieldsOf (verbOf (before 9 row)) (after 9 row)) m e
 
 -- ---- a reading
-
--- what an accepted reading's recipe has
-pub record Good (r : Recipe) : Type 0 where
-  pub width : isWidth (r .width) ≡ true
-  pub few : r .count ≤ 32
-  pub lines : Accepted (r .width) (recipeLines r)
 
 abbrev Sound : Reading → Type 0
 Sound r = isNothing (r .refusal) ≡ true → Good (r .recipe)
@@ -171,12 +166,28 @@ unfolding linesPass
 passes refuse w line [] go a = refl
 passes refuse w line (l ∷ ls) go a = rw (names-checked (8 / w) l (a .0)) (passes refuse w (suc line) ls go (a .1))
 
+-- a good recipe passes all tests
+pub good-passes : {R : Type 0} (refuse : Refusal → ℕ → R) (r : Recipe) (go : R) → Good r → tested refuse r go ≡ go
+good-passes refuse r go g = rw (g .width, le-leb (r .count) 32 (g .few)) (passes refuse (r .width) 2 (recipeLines r) go (g .lines))
+
 pub good-translates : (r : Recipe) (slots : List Step) → Good r → stepsOf (r .width) (recipeLines r) ≤ length slots
     → translateOf r slots ≡ listed Nothing 0 (stepsOf (r .width) (recipeLines r)) (over (listingOf (r .width) (recipeLines r)) slots)
 unfolding translateOf
 good-translates r slots g h =
-    rw (g .width, le-leb (r .count) 32 (g .few), le-leb (stepsOf (r .width) (recipeLines r)) (length slots) h)
-    (passes (λ k line. listed k line 0 slots) (r .width) 2 (recipeLines r) _ (g .lines))
+    good-passes (λ k line. listed k line 0 slots) r _ g ∙ rw (le-leb (stepsOf (r .width) (recipeLines r)) (length slots) h)
+
+-- and only a good recipe is translated, where there is room
+pub translated-good : (r : Recipe) (slots : List Step) → isNothing (translateOf r slots .refusal) ≡ true → Good r × (stepsOf (r .width) (recipeLines r) ≤ length slots)
+unfolding translateOf
+translated-good r slots =
+    tests-agree (λ (l : Listing) (u : Unit {0}). isNothing (l .refusal) ≡ true → Good r × (stepsOf (r .width) (recipeLines r) ≤ length slots)) (λ k line. listed k line 0 slots) (λ k line. tt)
+    (λ k line e h. absurd (false≢true (sym e ∙ h))) r _ tt (λ g. room g (leb (stepsOf (r .width) (recipeLines r)) (length slots)) refl)
+  where
+    room : Good r → (t : Bool) → leb (stepsOf (r .width) (recipeLines r)) (length slots) ≡ t
+        → isNothing (cond t (listed Nothing 0 (stepsOf (r .width) (recipeLines r)) (over (listingOf (r .width) (recipeLines r)) slots)) (listed NoSpace 0 0 slots) .refusal) ≡ true
+        → Good r × (stepsOf (r .width) (recipeLines r) ≤ length slots)
+    room g true e h = (g, leb-true (stepsOf (r .width) (recipeLines r)) (length slots) e)
+    room g false e h = absurd (false≢true h)
 
 pub read-translates : (text : List ℕ) (slots : List Step) → isNothing (readOf text .refusal) ≡ true
     → let r = readOf text .recipe in

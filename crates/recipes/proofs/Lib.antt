@@ -17,5 +17,8 @@ mod Verbs
 mod Numbers
 mod Whole
 mod Wide
+mod Doing
+pub mod Demand
+mod RunByRule
 pub mod Room
 pub mod Determined

@@ -25,18 +25,18 @@ use Rattle.recipes.specs.Recipe.{recipeLines, Accepted}
 use Rattle.recipes.specs.Listing.{listingOf, stepsOf, over, listed, translateOf, translated, blanks}
 use Rattle.recipes.specs.Making.{told, refused, judgeOf, Ready, settledOf}
 use Rattle.recipes.proofs.Steps.{listing-steps, listing-prefix, steps-most}
-use Rattle.recipes.proofs.Accepting.{tests-agree}
+use Rattle.recipes.proofs.Accepting.{width-is, tests-agree}
 
 -- a recipe's lines take at most 256 steps
-few-steps : (r : Recipe) → r .width ≤ 4 → r .count ≤ 32 → stepsOf (r .width) (recipeLines r) ≤ 256
+pub few-steps : (r : Recipe) → r .width ≤ 4 → r .count ≤ 32 → stepsOf (r .width) (recipeLines r) ≤ 256
 few-steps r w c =
     let some : length (recipeLines r) ≡ min (r .count) (length (r .lines)) = length-take (r .count) (r .lines) in
     let most = steps-most (r .width) (recipeLines r) w in omega arith
 
 pub ready : (r : Recipe) → length (r .lines) ≡ 32 → Ready (r .width) (r .lines) (judgeOf r .count)
 ready r n =
-    tests-agree (λ (t _ : Translated). Ready (r .width) (r .lines) (t .count)) refused refused (λ k line. none) r (told Nothing 0 (stepsOf (r .width) (recipeLines r)))
-    (told Nothing 0 (stepsOf (r .width) (recipeLines r))) whole
+    tests-agree (λ (t _ : Translated). Ready (r .width) (r .lines) (t .count)) refused refused (λ k line e. none) r (told Nothing 0 (stepsOf (r .width) (recipeLines r)))
+    (told Nothing 0 (stepsOf (r .width) (recipeLines r))) (λ g. whole (width-is (r .width) (g .width)) (g .few) (g .lines))
   where
     none : Ready (r .width) (r .lines) 0
     none = record { many = 0; within = omega arith; width = λ h. absurd (omega arith); named = λ h. absurd (omega arith); counted = omega arith; held = omega arith }
@@ -45,17 +45,17 @@ ready r n =
     whole w c a = record { many = r .count; within = few-steps r (w .1) c; width = λ h. w; named = λ h. a; counted = omega arith; held = omega arith }
 
 -- the translation that stands where all tests are passed
-abbrev whole : (w : ℕ) (ls : List Line) (slots : List Step) → Listing
+abbrev pub whole : (w : ℕ) (ls : List Line) (slots : List Step) → Listing
 whole w ls slots = cond (leb (stepsOf w ls) (length slots)) (listed Nothing 0 (stepsOf w ls) (over (listingOf w ls) slots)) (listed NoSpace 0 0 slots)
 
 -- where there is room, and where there is none
-whole-fits : (w : ℕ) (ls : List Line) (slots : List Step) → stepsOf w ls ≤ length slots → whole w ls slots ≡ listed Nothing 0 (stepsOf w ls) (over (listingOf w ls) slots)
+pub whole-fits : (w : ℕ) (ls : List Line) (slots : List Step) → stepsOf w ls ≤ length slots → whole w ls slots ≡ listed Nothing 0 (stepsOf w ls) (over (listingOf w ls) slots)
 whole-fits w ls slots h = rw (le-leb (stepsOf w ls) (length slots) h)
 
 whole-short : (w : ℕ) (ls : List Line) (slots : List Step) → length slots < stepsOf w ls → whole w ls slots ≡ listed NoSpace 0 0 slots
 whole-short w ls slots h = rw (lt-leb (stepsOf w ls) (length slots) h)
 
-blanks-fit : (r : Recipe) → r .width ≤ 4 → r .count ≤ 32 → stepsOf (r .width) (recipeLines r) ≤ length blanks
+pub blanks-fit : (r : Recipe) → r .width ≤ 4 → r .count ≤ 32 → stepsOf (r .width) (recipeLines r) ≤ length blanks
 blanks-fit r w c = rw length-replicate (few-steps r w c)
 
 pub laid : (r : Recipe)
@@ -63,8 +63,8 @@ pub laid : (r : Recipe)
 unfolding translateOf
 laid r =
     tests-agree (λ (t : Translated) (l : Listing). listed (t .refusal) (t .line) (t .count) (over (take (t .count) (listingOf (r .width) (r .lines))) blanks) ≡ l)
-    refused (λ k line. listed k line 0 blanks) (λ k line. refl) r (told Nothing 0 (stepsOf (r .width) (recipeLines r)))
-    (whole (r .width) (recipeLines r) blanks) (λ w c a. there w c)
+    refused (λ k line. listed k line 0 blanks) (λ k line e. refl) r (told Nothing 0 (stepsOf (r .width) (recipeLines r)))
+    (whole (r .width) (recipeLines r) blanks) (λ g. there (width-is (r .width) (g .width)) (g .few))
   where
     there : (0 < r .width) × (r .width ≤ 4) → r .count ≤ 32
         → listed Nothing 0 (stepsOf (r .width) (recipeLines r)) (over (take (stepsOf (r .width) (recipeLines r)) (listingOf (r .width) (r .lines))) blanks)
@@ -82,7 +82,8 @@ pub translate-lent : (r : Recipe) (slots : List Step) → copied (translateOf r 
 unfolding translateOf
 translate-lent r slots =
     tests-agree (λ (made l : Listing). copied made slots ≡ l) (λ k line. listed k line 0 blanks) (λ k line. listed k line 0 slots)
-    (λ k line. rw (le-ltb (length slots) 0 (omega arith))) r (whole (r .width) (recipeLines r) blanks) (whole (r .width) (recipeLines r) slots) there
+    (λ k line e. rw (le-ltb (length slots) 0 (omega arith))) r (whole (r .width) (recipeLines r) blanks) (whole (r .width) (recipeLines r) slots)
+    (λ g. there (width-is (r .width) (g .width)) (g .few) (g .lines))
   where
     room : Dec (stepsOf (r .width) (recipeLines r) ≤ length slots) → copied (listed Nothing 0 (stepsOf (r .width) (recipeLines r)) (over (listingOf (r .width) (recipeLines r)) blanks)) slots ≡ whole (r .width) (recipeLines r) slots
     room (yes h) =
@@ -102,8 +103,8 @@ translate-lent r slots =
 pub blanks-count : (r : Recipe) → translateOf r blanks .count ≤ 256
 unfolding translateOf
 blanks-count r =
-    tests-agree (λ (l _ : Listing). l .count ≤ 256) (λ k line. listed k line 0 blanks) (λ k line. listed k line 0 blanks) (λ k line. omega arith) r
-    (whole (r .width) (recipeLines r) blanks) (whole (r .width) (recipeLines r) blanks) (λ w c a. there w c)
+    tests-agree (λ (l _ : Listing). l .count ≤ 256) (λ k line. listed k line 0 blanks) (λ k line. listed k line 0 blanks) (λ k line e. omega arith) r
+    (whole (r .width) (recipeLines r) blanks) (whole (r .width) (recipeLines r) blanks) (λ g. there (width-is (r .width) (g .width)) (g .few))
   where
     there : (0 < r .width) × (r .width ≤ 4) → r .count ≤ 32 → whole (r .width) (recipeLines r) blanks .count ≤ 256
     there w c = rw (whole-fits (r .width) (recipeLines r) blanks (blanks-fit r (w .1) c)) (few-steps r (w .1) c)

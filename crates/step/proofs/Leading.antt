@@ -4,6 +4,7 @@
 --                     `leads-like`
 --     leads-through   legal steps that stand in the listing lead through it, to the state that they leave
 --     leads-in-parts  and so does a run that is halted as often as one likes
+--     idle            with no budget a run stays where it is
 use mathlib.Core.Path.{_≡_, refl, sym, ap, ap₂, _∙_, subst, subst⁻¹}
 use mathlib.Core.Bool.{true}
 use mathlib.Core.List.{List, [], _∷_, _++_}
@@ -17,10 +18,12 @@ use Rattle.step.specs.declared.steps.Step.{Step}
 use Rattle.step.specs.declared.steps.Outcome.{Outcome}
 use Rattle.step.specs.declared.steps.Outcome.the-variants.{Done}
 use Rattle.step.specs.declared.steps.Performed.{Performed}
+use Rattle.step.specs.declared.runs.End.{End}
+use Rattle.step.specs.declared.runs.End.the-variants as End
 use Rattle.step.specs.declared.runs.Ran.{Ran}
-use Rattle.step.specs.Run.{here, spotOf, counted, followed, runOf}
+use Rattle.step.specs.Run.{Spot, here, atEnd, pastEnd, spotOf, ends, counted, followed, runOf}
 use Rattle.step.specs.Parts.{after, goesOn, runInParts, total}
-use Rattle.step.proofs.Laws.{after-none, run-step, run-in-parts, parts-go}
+use Rattle.step.proofs.Laws.{after-none, run-end, run-none, run-step, run-in-parts, parts-go}
 use Rattle.step.proofs.Promises.{Alu, Legal, applied, Gives, Steps}
 
 -- what holds of each of some steps
@@ -60,6 +63,13 @@ stands-right l p [] ls h = subst⁻¹ (λ (q : ℕ). Stands l q ls) (add-zero p)
 stands-right l p (k ∷ ks) ls h =
     let e : p + suc (length ks) ≡ suc p + length ks = omega arith in
     subst⁻¹ (λ (q : ℕ). Stands l q ls) e (stands-right l (suc p) ks ls (h .1))
+
+-- up to the end, no place is past it
+spot-inside : (l : List Step) (p : ℕ) → p ≤ length l → spotOf l p ≡ pastEnd → ⊥
+spot-inside [] zero h e = let z : _≡_ {A = ℕ} 0 1 = cc in omega arith
+spot-inside [] (suc p) h e = omega arith
+spot-inside (c ∷ l) zero h e = let z : _≡_ {A = ℕ} 0 1 = cc in omega arith
+spot-inside (c ∷ l) (suc p) h e = spot-inside l p (omega arith) e
 
 -- ---- where steps lead
 
@@ -101,6 +111,25 @@ module _ (f : State → Step → Performed) (l : List Step) where
   leads-in-parts {s} {t} {p} {n} {c} {q} h more b bs e g =
       let whole : runOf f l s p (total b bs) ≡ after n c (runOf f l t q more) = ap (runOf f l s p) e ∙ h .runs more in
       run-in-parts f l bs s p b (parts-go f l bs s p b (subst⁻¹ (λ (r : Ran). goesOn (r .end) ≡ true) whole g)) ∙ whole
+
+  -- with no budget a run stays where it is, up to the end
+  pub record Idle (s : State) (p : ℕ) : Type 0 where
+    pub goes : goesOn (runOf f l s p 0 .end) ≡ true
+    pub state : runOf f l s p 0 .state ≡ s
+    pub next : runOf f l s p 0 .next ≡ p
+    pub steps : runOf f l s p 0 .steps ≡ 0
+
+  idle-as : (s : State) (p : ℕ) (e : End) → runOf f l s p 0 ≡ ends e s p → goesOn e ≡ true → Idle s p
+  idle-as s p e is g =
+      record { goes = ap (λ (r : Ran). goesOn (r .end)) is ∙ g; state = ap (λ (r : Ran). r .state) is; next = ap (λ (r : Ran). r .next) is; steps = ap (λ (r : Ran). r .steps) is }
+
+  pub idle : (s : State) (p : ℕ) → p ≤ length l → Idle s p
+  idle s p h = go (spotOf l p) refl
+    where
+      go : (o : Spot) → spotOf l p ≡ o → Idle s p
+      go pastEnd e = absurd (spot-inside l p h e)
+      go atEnd e = idle-as s p End.Finished (run-end f l s p 0 e) refl
+      go (here k) e = idle-as s p End.Budget (run-none f l s p k e) refl
 
   module _ (step : Steps f) where
     pub leads-through : (ks : List Step) (s : State) (p : ℕ) → Stands l p ks → All Legal ks

@@ -1,37 +1,39 @@
+-- `recipes::runner::codes_after` meets its contract: the last line decides. Assumes nothing.
 use borrow.Author.Needs.{needs}
+use mathlib.Core.Path.{_≡_, sym, _∙_}
+use native.Mathlib.Omega.{arith}
+use lib.ListN.{length}
+use Rattle.recipes.proofs.Writing.{mapped}
+use Rattle.recipes.proofs.RunByRule.{codes-of}
 use Rattle.recipes.proofs.runner.codes_after.Statement.{statement}
 use Rattle.recipes.proofs.runner.codes_after.Tie as tie
-use Rattle.recipes.proofs.runner.codes_after.Reads as reads
-use Rattle.recipes.proofs.runner.codes_after.Lts as lts
-use Rattle.recipes.proofs.runner.tells_all.Reads as tells-all-reads
 
--- src/runner.rt:43:9
 returns : tie.Need-returns
-returns c = ?
+returns c = let e : c .before .args .count ≡ 0 = omega arith in rw e
 
--- src/runner.rt:45:22
 sub-last : tie.Need-sub-last
 sub-last c = search needs
 
--- src/runner.rt:45:16
 mul-last : tie.Need-mul-last
 mul-last c = search needs
 
--- src/runner.rt:45:16
 array-copy-out-last : tie.Need-array-copy-out-last
 array-copy-out-last c = search needs
 
--- src/runner.rt:47:8
 tells-all-requires : tie.Need-tells-all-requires
 tells-all-requires c κs = search needs
 
--- src/runner.rt:38:1
 returns-2 : tie.Need-returns-2
-returns-2 c = ?
+returns-2 c =
+    let s = c .before .before .before .before in
+    let size : length (s .args .t1) ≡ 32 = search mapped in
+    rw (← codes-of (s .args .t1) (s .args .count) (s .args .flags) (omega arith) (omega (arith, size)), sym (c .before .tells-all .ensures) ∙ c .if2 .taken)
 
--- src/runner.rt:38:1
 returns-3 : tie.Need-returns-3
-returns-3 c = ?
+returns-3 c =
+    let s = c .before .before .before .before in
+    let size : length (s .args .t1) ≡ 32 = search mapped in
+    rw (← codes-of (s .args .t1) (s .args .count) (s .args .flags) (omega arith) (omega (arith, size)), sym (c .before .tells-all .ensures) ∙ c .if2 .left)
 
 pub codes-after-spec : {M : Type 1} → statement M
 codes-after-spec =

@@ -1,41 +1,49 @@
+-- `recipes::runner::run_recipe` meets its contract: a refusal, or what the rule makes of the state. Assumes nothing.
 use borrow.Author.Needs.{needs}
+use borrow.Author.Tests.{not-true, not-false}
+use mathlib.Core.Path.{sym, _∙_}
+use Rattle.recipes.specs.Demand.{Words}
+use Rattle.recipes.proofs.Accepting.{Good}
+use Rattle.recipes.proofs.RunByRule.{words-owned, made-good, run-refused, run-ruled}
 use Rattle.recipes.proofs.runner.run_recipe.Statement.{statement}
 use Rattle.recipes.proofs.runner.run_recipe.Tie as tie
-use Rattle.recipes.proofs.runner.run_recipe.Reads as reads
-use Rattle.recipes.proofs.runner.run_recipe.Lts as lts
-use Rattle.recipes.proofs.runner.codes_after.Reads as codes-after-reads
-use Rattle.recipes.proofs.runner.refused.Reads as refused-reads
-use Rattle.recipes.proofs.translator.translate_array.Reads as translate-array-reads
-use Rattle.recipes.proofs.types.is_nothing.Reads as is-nothing-reads
-use Rattle.step.proofs.runs.run_array.Reads as run-array-reads
 
--- src/runner.rt:78:9
 translate-array-requires : tie.Need-translate-array-requires
 translate-array-requires c κs = search needs
 
--- src/runner.rt:80:9
 is-nothing-requires : tie.Need-is-nothing-requires
 is-nothing-requires c κs = search needs
 
--- src/runner.rt:81:9
 refused-requires : tie.Need-refused-requires
 refused-requires c κs = search needs
 
--- src/runner.rt:81:9
 returns : tie.Need-returns
-returns c = ?
+returns c =
+    let i = c .before in
+    let n = i .before in
+    let t = n .before in
+    c .refused .ensures ∙ run-refused _ _ _ (t .translate-array .ensures) (sym (n .is-nothing .ensures) ∙ not-true (n .is-nothing .result) (i .if1 .taken))
 
--- src/runner.rt:84:9
 run-array-requires : tie.Need-run-array-requires
 run-array-requires c κs = search needs
 
--- src/runner.rt:89:9
 codes-after-requires : tie.Need-codes-after-requires
-codes-after-requires c κs = ?
+codes-after-requires c κs =
+    let i = c .before .before .before .before .before .before in
+    let n = i .before in
+    let t = n .before in
+    made-good _ _ (t .translate-array .ensures) (sym (n .is-nothing .ensures) ∙ not-false (n .is-nothing .result) (i .if1 .left)) .few
 
--- src/runner.rt:74:1
 returns-2 : tie.Need-returns-2
-returns-2 c = ?
+returns-2 c =
+    let run = c .before .before .before .before .before in
+    let i = run .before .before in
+    let n = i .before in
+    let t = n .before in
+    let s = t .before .before in
+    let g = s .good .1 .0 in
+    let ok : Words (s .args .state .d) = search words-owned in
+    run-ruled _ _ _ _ _ (t .translate-array .ensures) (sym (n .is-nothing .ensures) ∙ not-false (n .is-nothing .result) (i .if1 .left)) ok (run .run-array .ensures) (c .codes-after .ensures)
 
 pub run-recipe-spec : {M : Type 1} → statement M
 run-recipe-spec =

@@ -1,36 +1,29 @@
+-- `recipes::runner::run_text` meets its contract: a recipe that is run, or a refusal. Assumes nothing.
 use borrow.Author.Needs.{needs}
+use mathlib.Core.Path.{sym, _∙_}
+use Rattle.recipes.proofs.RunByRule.{text-run, text-refused}
 use Rattle.recipes.proofs.runner.run_text.Statement.{statement}
 use Rattle.recipes.proofs.runner.run_text.Tie as tie
-use Rattle.recipes.proofs.runner.run_text.Reads as reads
-use Rattle.recipes.proofs.runner.run_text.Lts as lts
-use Rattle.recipes.proofs.reader.read.Reads as read-reads
-use Rattle.recipes.proofs.runner.refused.Reads as refused-reads
-use Rattle.recipes.proofs.runner.run_recipe.Reads as run-recipe-reads
-use Rattle.recipes.proofs.types.is_nothing.Reads as is-nothing-reads
 
--- src/runner.rt:106:9
 read-requires : tie.Need-read-requires
 read-requires c κs = search needs
 
--- src/runner.rt:109:8
 is-nothing-requires : tie.Need-is-nothing-requires
 is-nothing-requires c κs = search needs
 
--- src/runner.rt:110:9
 run-recipe-requires : tie.Need-run-recipe-requires
 run-recipe-requires c κs = search needs
 
--- src/runner.rt:112:9
 refused-requires : tie.Need-refused-requires
 refused-requires c κs = search needs
 
--- src/runner.rt:103:1
 returns : tie.Need-returns
-returns c = ?
+returns c = let i = c .before in let r = i .before .before .before in
+    c .run-recipe .ensures ∙ rw (r .read .ensures) (text-run _ _ (rw (← r .read .ensures) (sym (i .before .is-nothing .ensures) ∙ i .if1 .taken)))
 
--- src/runner.rt:103:1
 returns-2 : tie.Need-returns-2
-returns-2 c = ?
+returns-2 c = let i = c .before in let r = i .before .before .before in
+    c .refused .ensures ∙ rw (r .read .ensures) (text-refused _ _ (rw (← r .read .ensures) (sym (i .before .is-nothing .ensures) ∙ i .if1 .left)))
 
 pub run-text-spec : {M : Type 1} → statement M
 run-text-spec =

@@ -1,0 +1,215 @@
+-- Demand 3: the listing of an accepted recipe, run whole or in parts, does what the rule says line by line. `lines-lead` holds of any step function that
+-- keeps the promises of the step machine (`Steps`); the machine's own does (`performs`). Assumes nothing.
+--     demand-3           Demand3 of specs/Demand
+--     halted-behind      HaltedBehind: halted behind the steps of its first lines, the registers and flags are as those lines leave them
+--     one-by-one         CalledOneByOne: it holds for whoever calls the translator and the run one by one
+--     steps-few          an accepted recipe has at most 256 steps
+--     meets-one          two runs that meet the rule are equal, once their flags are; `meets-x`: their X is; `meets-flags`: after add, sub and neg, all five
+--     ruled-registers    the rule's numbers determine the registers
+use mathlib.Core.Path.{_≡_, refl, sym, ap, ap₂, _∙_, subst, subst⁻¹}
+use mathlib.Core.Bool.{Bool, true, false, _||_, false≢true}
+use mathlib.Core.List.{List, [], _∷_, _++_, append-nil}
+use Prim.Native.Nat.{ℕ, zero, suc, _+_, _-_, _*_, _/_, _≤_, _<_}
+use native.Mathlib.Omega.{arith}
+use native.Mathlib.Nat.{add-zero, zero-add, add-assoc}
+use borrow.Author.Tests.{eqb-true}
+use lib.Dec.{eqb}
+use lib.ListN.{length, set, take, drop, length-append}
+use lib.Seq.{take-append-seam}
+use Rattle.alu.specs.declared.types.Flags.{Flags}
+use Rattle.step.specs.declared.registers.State.{State}
+use Rattle.step.specs.declared.steps.Step.{Step}
+use Rattle.step.specs.declared.steps.Performed.{Performed}
+use Rattle.step.specs.declared.runs.End.the-variants.{Finished}
+use Rattle.step.specs.declared.runs.Ran.{Ran}
+use Rattle.step.specs.Perform.{performOf}
+use Rattle.step.specs.Run.{ends, runOf}
+use Rattle.step.specs.Parts.{after, goesOn, runInParts, total}
+use Rattle.step.proofs.Laws.{spot-end, run-end}
+use Rattle.step.proofs.Promises.{Alu, Legal, Steps, performs}
+use Rattle.step.proofs.Leading.{All, executed, figures, Stands, stands-first, stands-left, stands-right, Leads, leads-none, leads-then, leads-like, leads-through, leads-in-parts, idle}
+use Rattle.recipes.specs.declared.types.Line.{Line}
+use Rattle.recipes.specs.declared.types.Recipe.{Recipe}
+use Rattle.recipes.specs.declared.types.Listing.{Listing}
+use Rattle.recipes.specs.declared.types.Codes.{Codes}
+use Rattle.recipes.specs.declared.types.Codes.the-variants.{Known}
+use Rattle.recipes.specs.Recipe.{isNothing, isWidth, target, recipeLines, Names, Accepted}
+use Rattle.recipes.specs.Listing.{lineSteps, listingOf, stepsAt, stepsOf, over, translateOf}
+use Rattle.recipes.specs.Printer.{figureOf, clocksOf}
+use Rattle.recipes.specs.Rule.{numbersOf, registersOf, codesOf, Numbers, saidBy, ruleOf, rulesOf}
+use Rattle.recipes.specs.Demand.{Words, Holds, Ruled, Meets, Demand3, HaltedBehind, CalledOneByOne}
+use Rattle.recipes.proofs.Steps.{line-length, listing-steps}
+use Rattle.recipes.proofs.Accepting.{Good, width-is}
+use Rattle.recipes.proofs.Settling.{few-steps}
+use Rattle.recipes.proofs.Agreeing.{good-translates, translated-good}
+use Rattle.recipes.proofs.Legal.{line-legal, listing-legal, figure-same}
+use Rattle.recipes.proofs.Numbers.{numbers-stored, words-kept, registers-back}
+use Rattle.recipes.proofs.Doing.{Does, num, line-does}
+
+-- ---- one line
+
+-- a line goes by the numbers and X alone
+rule-said : (w : ℕ) (l : Line) (s₀ s : State) (r : Numbers) → Ruled w r s₀ s → ruleOf w l (saidBy w s) ≡ ruleOf w l r
+rule-said w l s₀ s r says =
+    ap₂ {C = Numbers} (λ (ns : List ℕ) (x : Bool). ruleOf w l (record { numbers = ns; x = x; codes = r .codes })) (says .numbers) (says .x)
+
+line-ruled : (w : ℕ) (l : Line) (s₀ s t : State) (r : Numbers) → Ruled w r s₀ s → Names (8 / w) l → Does w (l .verb) (l .a) (target l) s t → Ruled w (ruleOf w l r) s₀ t
+line-ruled w l s₀ s t r says named does =
+    subst (λ (q : Numbers). Ruled w q s₀ t) (rule-said w l s₀ s r says)
+    (record {
+      numbers =
+          ap (λ (u : State). numbersOf w (u .d)) (does .lands)
+          ∙ (numbers-stored w (s .d) (does .row .words) (target l) (says .words .count) (does .size) (named .goal)
+          ∙ ap (set (numbersOf w (s .d)) (target l)) (does .result));
+      x = ap (λ (u : State). u .flags .x) (does .lands) ∙ does .x;
+      codes = subst⁻¹ (λ (u : State). Holds (codesOf (32 * w) (l .verb) (num w s (l .a)) (num w s (target l))) (u .flags)) (does .lands) (does .codes);
+      addresses = ap (λ (u : State). u .a) (does .lands) ∙ says .addresses;
+      words = subst⁻¹ (λ (u : State). Words (u .d)) (does .lands) (words-kept (target l * w) (s .d) (does .row .words) (says .words) (does .below));
+    })
+
+-- ---- all lines
+
+figures-append : (figure : Step → ℕ) (ks ls : List Step) → figures figure (ks ++ ls) ≡ figures figure ks + figures figure ls
+figures-append figure [] ls = sym (zero-add _)
+figures-append figure (k ∷ ks) ls = ap (λ (c : ℕ). figure k + c) (figures-append figure ks ls) ∙ sym (add-assoc (figure k) _ _)
+
+module _ (f : State → Step → Performed) (step : Steps f) (n : ℕ) (l : List Step) (s₀ : State) where
+  -- from place p, n steps of c clocks in all lead to place q and to a state that says r
+  record Came (p : ℕ) (s : State) (steps clocks : ℕ) (r : Numbers) (q : ℕ) : Type 0 where
+    state : State
+    leads : Leads f l s p steps clocks state q
+    rule : Ruled (suc n) r s₀ state
+
+  -- the lines' steps lead to what the rule makes of r
+  lines-lead : (ls : List Line) (p : ℕ) (s : State) (r : Numbers) → Accepted (suc n) ls → Ruled (suc n) r s₀ s → Stands l p (listingOf (suc n) ls)
+      → Came p s (stepsOf (suc n) ls) (figures (step .figure) (listingOf (suc n) ls)) (rulesOf (suc n) ls r) (p + stepsOf (suc n) ls)
+  unfolding listingOf stepsOf rulesOf
+  lines-lead [] p s r h says at =
+      record { state = s; leads = leads-like f l (leads-none f l s p) _ _ refl (sym (add-zero p)); rule = says }
+  lines-lead (k ∷ ls) p s r h says at =
+      let m : Alu = step .alu in
+      let ks : List Step = lineSteps (suc n) k in
+      let t : State = executed m ks s in
+      let now : Ruled (suc n) (ruleOf (suc n) k r) s₀ t = line-ruled (suc n) k s₀ s t r says (h .0) (line-does m (step .promises) n s (says .words) k (h .0)) in
+      let size : length ks ≡ stepsAt (k .verb) * suc n = line-length (suc n) k in
+      let rest = lines-lead ls (p + length ks) t (ruleOf (suc n) k r) (h .1) now (stands-right l p ks (listingOf (suc n) ls) at) in
+      let run = leads-through f l step ks s p (stands-left l p ks (listingOf (suc n) ls) at) (line-legal (suc n) k (h .0)) in
+      record {
+        state = rest .state;
+        leads =
+            subst⁻¹ (λ (c : ℕ). Leads f l s p (stepsOf (suc n) (k ∷ ls)) c (rest .state) (p + stepsOf (suc n) (k ∷ ls))) (figures-append (step .figure) ks (listingOf (suc n) ls))
+            (leads-like f l (leads-then f l run (rest .leads)) _ _ (omega arith) (omega arith));
+        rule = rest .rule;
+      }
+
+-- the figures of a legal listing are those that are printed
+figures-printed : (ks : List Step) (s : State) → All Legal ks → figures (performs .figure) ks ≡ clocksOf ks
+unfolding clocksOf
+figures-printed [] s h = refl
+figures-printed (k ∷ ks) s h =
+    ap₂ {C = ℕ} (λ (a b : ℕ). a + b) (sym (performs .does k s (h .0) .clocks) ∙ figure-same k s (h .0)) (figures-printed ks s (h .1))
+
+-- a state says what it says
+says-itself : (w : ℕ) (s : State) → Words (s .d) → Ruled w (saidBy w s) s s
+says-itself w s ok = record { numbers = refl; x = refl; codes = refl; addresses = refl; words = ok }
+
+-- a recipe's listing in front of any steps
+came-through : (n : ℕ) (ls : List Line) (more : List Step) → Accepted (suc n) ls → (s : State) → Words (s .d)
+    → Came performOf performs n (listingOf (suc n) ls ++ more) s 0 s (stepsOf (suc n) ls) (clocksOf (listingOf (suc n) ls)) (rulesOf (suc n) ls (saidBy (suc n) s)) (stepsOf (suc n) ls)
+came-through n ls more h s ok =
+    let ks = listingOf (suc n) ls in
+    let came = lines-lead performOf performs n (ks ++ more) s ls 0 s (saidBy (suc n) s) h (says-itself (suc n) s ok) (stands-first ks more) in
+    subst (λ (c : ℕ). Came performOf performs n (ks ++ more) s 0 s (stepsOf (suc n) ls) c (rulesOf (suc n) ls (saidBy (suc n) s)) (stepsOf (suc n) ls))
+    (figures-printed ks s (listing-legal (suc n) ls h))
+    (record { state = came .state; leads = leads-like performOf (ks ++ more) (came .leads) _ _ refl (zero-add _); rule = came .rule })
+
+pub demand-3 : Demand3
+demand-3 zero pos ls h s ok b bs enough = absurd (omega arith)
+demand-3 (suc n) pos ls h s ok b bs enough =
+    let l = listingOf (suc n) ls in
+    let steps = stepsOf (suc n) ls in
+    let came = subst (λ (k : List Step). Came performOf performs n k s 0 s steps (clocksOf l) (rulesOf (suc n) ls (saidBy (suc n) s)) steps) (append-nil l) (came-through n ls [] h s ok) in
+    let over : runOf performOf l (came .state) steps (total b bs - steps) ≡ ends Finished (came .state) steps =
+    run-end performOf l (came .state) steps (total b bs - steps) (spot-end l steps (sym (listing-steps (suc n) ls))) in
+    let parts = leads-in-parts performOf l (came .leads) (total b bs - steps) b bs (omega arith) (subst⁻¹ (λ (r : Ran). goesOn (r .end) ≡ true) over refl) in
+    subst⁻¹ (Meets (suc n) ls s) (parts ∙ ap (after steps (clocksOf l)) over)
+    (record { end = refl; rule = came .rule; next = refl; steps = add-zero _; clocks = add-zero _ })
+
+pub halted-behind : HaltedBehind
+halted-behind zero pos ls h more s ok b bs there = absurd (omega arith)
+halted-behind (suc n) pos ls h more s ok b bs there =
+    let l = listingOf (suc n) ls ++ more in
+    let steps = stepsOf (suc n) ls in
+    let came = came-through n ls more h s ok in
+    let inside : steps ≤ length l = omega (arith, listing-steps (suc n) ls, length-append (listingOf (suc n) ls) more) in
+    let idles = idle performOf l (came .state) steps inside in
+    let parts = leads-in-parts performOf l (came .leads) 0 b bs (omega arith) (idles .goes) in
+    subst⁻¹ (λ (r : Ran). Ruled (suc n) (rulesOf (suc n) ls (saidBy (suc n) s)) s (r .state) × (goesOn (r .end) ≡ true) × (r .next ≡ steps) × (r .steps ≡ steps)) parts
+    (subst⁻¹ (Ruled (suc n) (rulesOf (suc n) ls (saidBy (suc n) s)) s) (idles .state) (came .rule), idles .goes, idles .next, ap (λ (k : ℕ). steps + k) (idles .steps) ∙ add-zero _)
+
+-- ---- for the code
+
+pub steps-few : (r : Recipe) → Good r → stepsOf (r .width) (recipeLines r) ≤ 256
+steps-few r g = few-steps r (width-is (r .width) (g .width) .1) (g .few)
+
+-- what was translated is the listing: its steps are the first `count` slots
+translated-listing : (r : Recipe) (slots : List Step) → isNothing (translateOf r slots .refusal) ≡ true
+    → let t = translateOf r slots in (t .count ≡ stepsOf (r .width) (recipeLines r)) × (take (t .count) (t .steps) ≡ listingOf (r .width) (recipeLines r))
+translated-listing r slots e =
+    let g = translated-good r slots e in
+    let w = r .width in
+    let ls = recipeLines r in
+    let is = good-translates r slots (g .0) (g .1) in (
+      ap (λ (t : Listing). t .count) is,
+      ap (λ (t : Listing). take (t .count) (t .steps)) is
+          ∙ (ap (λ (n : ℕ). take n (over (listingOf w ls) slots)) (sym (listing-steps w ls)) ∙ take-append-seam (listingOf w ls) (drop (length (listingOf w ls)) slots)),
+    )
+
+pub one-by-one : CalledOneByOne
+one-by-one r slots e s ok b bs enough =
+    let w = r .width in
+    let ls = recipeLines r in
+    let g = translated-good r slots e .0 in
+    let is = translated-listing r slots e in
+    subst⁻¹ (λ (l : List Step). Meets w ls s (runInParts performOf l s 0 b bs)) (is .1)
+    (demand-3 w (width-is w (g .width) .0) ls (g .lines) s ok b bs (subst (λ (n : ℕ). n ≤ total b bs) (is .0) enough))
+
+-- ---- nothing is left open
+
+width-fills : (w : ℕ) → isWidth w ≡ true → 8 / w * w ≡ 8
+width-fills w e = go (eqb w 1) refl (eqb w 2) refl (eqb w 4) refl e
+  where
+    at : (k : ℕ) → 8 / k * k ≡ 8 → eqb w k ≡ true → 8 / w * w ≡ 8
+    at k h is = subst⁻¹ (λ (w : ℕ). 8 / w * w ≡ 8) (eqb-true w k is) h
+
+    go : (s : Bool) → eqb w 1 ≡ s → (t : Bool) → eqb w 2 ≡ t → (u : Bool) → eqb w 4 ≡ u → (s || t) || u ≡ true → 8 / w * w ≡ 8
+    go true h t i u j e = at 1 refl h
+    go false h true i u j e = at 2 refl i
+    go false h false i true j e = at 4 refl j
+    go false h false i false j e = absurd (false≢true e)
+
+-- the registers that the rule's numbers give are those of the state
+pub ruled-registers : (w : ℕ) → isWidth w ≡ true → (r : Numbers) (s t : State) → Ruled w r s t → registersOf w (r .numbers) ≡ t .d
+ruled-registers w e r s t h = ap (registersOf w) (sym (h .numbers)) ∙ registers-back w (t .d) (width-fills w e) (h .words)
+
+-- two runs that meet the rule differ in N, Z, V and C alone, and that only where the rule doesn't tell them
+pub meets-one : (w : ℕ) → isWidth w ≡ true → (ls : List Line) (s : State) (r q : Ran) → Meets w ls s r → Meets w ls s q → r .state .flags ≡ q .state .flags → r ≡ q
+meets-one w e ls s r q h g same =
+    let d : r .state .d ≡ q .state .d = sym (ruled-registers w e _ s (r .state) (h .rule)) ∙ ruled-registers w e _ s (q .state) (g .rule) in
+    let a : r .state .a ≡ q .state .a = h .rule .addresses ∙ sym (g .rule .addresses) in λ i. record {
+      end = (h .end ∙ sym (g .end)) i;
+      state = record { d = d i; a = a i; flags = same i };
+      next = (h .next ∙ sym (g .next)) i;
+      steps = (h .steps ∙ sym (g .steps)) i;
+      clocks = (h .clocks ∙ sym (g .clocks)) i;
+    }
+
+pub meets-x : (w : ℕ) (ls : List Line) (s : State) (r q : Ran) → Meets w ls s r → Meets w ls s q → r .state .flags .x ≡ q .state .flags .x
+meets-x w ls s r q h g = h .rule .x ∙ sym (g .rule .x)
+
+pub meets-flags : (w : ℕ) (ls : List Line) (s : State) (f : Flags) (r q : Ran) → rulesOf w ls (saidBy w s) .codes ≡ Known f → Meets w ls s r → Meets w ls s q
+    → r .state .flags ≡ q .state .flags
+meets-flags w ls s f r q e h g = told r h ∙ sym (told q g)
+  where
+    told : (r : Ran) → Meets w ls s r → r .state .flags ≡ f
+    told r h = subst (λ (c : Codes). Holds c (r .state .flags)) e (h .rule .codes)
