@@ -1,0 +1,233 @@
+// Replays one vector: its text is read and translated, and the listing is run halted at every place.
+ghost use Prim.Native.Nat.{_≤_};
+use crate::header::Vector;
+use alu::types::Flags;
+use recipes::reader::read;
+use recipes::translator::translate_array;
+use recipes::types::number;
+use step::runs::End;
+use step::runs::Ran;
+use step::runs::run_array;
+use step::steps::Step;
+
+// What is not as it ought to be.
+pub(crate) enum Slip {
+    Nothing,
+    Malformed,
+    Reading,
+    Translation,
+    Count,
+    Halt,
+    End,
+    Clocks,
+    Data,
+    Address,
+    Flags,
+}
+
+// The runs made, the first slip, and the place that the run was halted at.
+pub(crate) struct Replayed {
+    pub runs: u64,
+    pub slip: Slip,
+    pub place: u32,
+}
+
+pub(crate) fn without_run(slip: Slip) -> Replayed {
+    Replayed {
+        runs: 0,
+        slip,
+        place: 0,
+    }
+}
+
+pub(crate) fn is_slip(slip: Slip) -> bool {
+    if let Slip::Nothing = slip {
+        false
+    } else {
+        true
+    }
+}
+
+// A run before its first step.
+fn not_begun(vector: Vector) -> Ran {
+    let state = vector.before;
+    Ran {
+        end: End::Budget,
+        state,
+        next: 0,
+        steps: 0,
+        clocks: 0,
+    }
+}
+
+// A run that is continued from where it halted: steps and clocks add.
+fn continued(listing: [Step; 256], count: u32, ran: Ran, budget: u32) -> Ran {
+    let halted = ran.state;
+    let more = run_array(listing, count as usize, halted, ran.next, budget);
+    let end = more.end;
+    let state = more.state;
+    Ran {
+        end,
+        state,
+        next: more.next,
+        steps: std::num::wrapping_add_u32(ran.steps, more.steps),
+        clocks: std::num::wrapping_add_u64(ran.clocks, more.clocks),
+    }
+}
+
+fn is_budget(end: End) -> bool {
+    if let End::Budget = end { true } else { false }
+}
+
+fn is_finished(end: End) -> bool {
+    if let End::Finished = end { true } else { false }
+}
+
+// Whether a run of `count` steps has halted at the place, or at the end has finished.
+fn stands_at(ran: Ran, place: u32, count: u32) -> bool {
+    let end = ran.end;
+    let ended = if place < count {
+        is_budget(end)
+    } else {
+        is_finished(end)
+    };
+    ended & (ran.next == place as usize) & (ran.steps == place)
+}
+
+fn same_registers(a: [u32; 8], b: [u32; 8]) -> bool {
+    (a[0] == b[0])
+        & (a[1] == b[1])
+        & (a[2] == b[2])
+        & (a[3] == b[3])
+        & (a[4] == b[4])
+        & (a[5] == b[5])
+        & (a[6] == b[6])
+        & (a[7] == b[7])
+}
+
+// Only the promised flags are compared.
+fn same_flags(promised: Flags, a: Flags, b: Flags) -> bool {
+    (!promised.x | (a.x == b.x))
+        & (!promised.n | (a.n == b.n))
+        & (!promised.z | (a.z == b.z))
+        & (!promised.v | (a.v == b.v))
+        & (!promised.c | (a.c == b.c))
+}
+
+// What is wrong with a run that ought to be over.
+fn judge(vector: Vector, ran: Ran) -> Slip {
+    let before = vector.before;
+    let address = before.a;
+    let data = vector.data;
+    let flags = vector.flags;
+    let promised = vector.promised;
+    let after = ran.state;
+    let d = after.d;
+    let a = after.a;
+    let f = after.flags;
+    if !stands_at(ran, vector.steps, vector.steps) {
+        return Slip::End;
+    }
+    if ran.clocks != vector.clocks {
+        return Slip::Clocks;
+    }
+    if !same_registers(d, data) {
+        return Slip::Data;
+    }
+    if !same_registers(a, address) {
+        return Slip::Address;
+    }
+    if !same_flags(promised, f, flags) {
+        return Slip::Flags;
+    }
+    Slip::Nothing
+}
+
+// Two runs: one to the place, and from there one to the end.
+fn halted_at(vector: Vector, listing: [Step; 256], place: u32) -> Slip
+    requires { ⌜ place ≤ vector .steps ⌝ }
+{
+    let count = vector.steps;
+    let begun = continued(listing, count, not_begun(vector), place);
+    let whole = continued(listing, count, begun, count - place);
+    if stands_at(begun, place, count) {
+        judge(vector, whole)
+    } else {
+        Slip::Halt
+    }
+}
+
+// The start and the end are places too.
+fn halted_at_each(vector: Vector, listing: [Step; 256]) -> Replayed {
+    let count = vector.steps;
+    let mut runs: u64 = 0;
+    for place in 0..=count {
+        let slip = halted_at(vector, listing, place);
+        runs = std::num::wrapping_add_u64(runs, 2);
+        if is_slip(slip) {
+            return Replayed { runs, slip, place };
+        }
+    }
+    Replayed {
+        runs,
+        slip: Slip::Nothing,
+        place: 0,
+    }
+}
+
+// Halted after every step: a run of no step, then runs of one.
+fn step_by_step(vector: Vector, listing: [Step; 256]) -> Replayed {
+    let count = vector.steps;
+    let mut runs: u64 = 1;
+    let mut ran = continued(listing, count, not_begun(vector), 0);
+    for place in 0..count {
+        if !stands_at(ran, place, count) {
+            return Replayed {
+                runs,
+                slip: Slip::Halt,
+                place,
+            };
+        }
+        ran = continued(listing, count, ran, 1);
+        runs = std::num::wrapping_add_u64(runs, 1);
+    }
+    Replayed {
+        runs,
+        slip: judge(vector, ran),
+        place: count,
+    }
+}
+
+fn halted_everywhere(vector: Vector, listing: [Step; 256]) -> Replayed {
+    let first = halted_at_each(vector, listing);
+    let slip = first.slip;
+    if is_slip(slip) {
+        return first;
+    }
+    let second = step_by_step(vector, listing);
+    let slip = second.slip;
+    Replayed {
+        runs: std::num::wrapping_add_u64(first.runs, second.runs),
+        slip,
+        place: second.place,
+    }
+}
+
+pub(crate) fn replay(vector: Vector, text: &[u8]) -> Replayed {
+    let reading = read(text);
+    let refusal = reading.refusal;
+    let recipe = reading.recipe;
+    if number(refusal) != 0 {
+        return without_run(Slip::Reading);
+    }
+    let made = translate_array(recipe);
+    let refusal = made.refusal;
+    let listing = made.steps;
+    if number(refusal) != 0 {
+        return without_run(Slip::Translation);
+    }
+    if made.count != vector.steps as usize {
+        return without_run(Slip::Count);
+    }
+    halted_everywhere(vector, listing)
+}
