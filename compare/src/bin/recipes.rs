@@ -74,20 +74,25 @@ fn compare_text(text: &[u8], out: &mut [u8; OUT], tally: &mut Tally) -> Refused 
     should
 }
 
-/// Random texts, as many of each kind. A text longer than the program reads is compared cut and whole.
+/// Random texts, as many of each kind. A text longer than the program reads is compared cut and whole: both meet one refusal.
 fn compare_texts(count: u64, random: &mut Random, tally: &mut Tally) -> bool {
     const NUMBERS: [usize; 6] = [0, 4, 5, 6, 7, 8];
     let mut out = UNTOUCHED;
     let mut met = [Met::default(); KINDS.len()];
     // the refused lines: the recipe's first (or the width line), the text's last, and those between
     let mut places = [Met::default(); 3];
+    let mut long = 0;
     for at in 0..count {
         let kind = (at % KINDS.len() as u64) as usize;
         let input = KINDS[kind].text(random);
         let text = taken(&input);
         let refused = compare_text(text, &mut out, tally);
         if text.len() < input.len() {
-            compare_text(&input, &mut out, tally);
+            let whole = compare_text(&input, &mut out, tally);
+            tally.count(whole == refused, || {
+                format!("a text of {} bytes: {whole:?}, cut {refused:?}", input.len())
+            });
+            long += 1;
         }
         met[kind].add(refused);
         let last = text.split_inclusive(|&byte| byte == b'\n').count();
@@ -102,6 +107,7 @@ fn compare_texts(count: u64, random: &mut Random, tally: &mut Tally) -> bool {
         all.0.iter_mut().zip(one.0).for_each(|(sum, count)| *sum += count);
     }
     all.print("all", &NUMBERS);
+    println!("longer than the program reads\t{long}");
     println!("refused on\t4\t5\t6\t7\t8");
     let names = ["the first line", "a line between", "the last line"];
     let wanted: [&[usize]; 3] = [&[4, 5, 6, 7], &[5, 6, 7, 8], &[5, 6, 7, 8]];

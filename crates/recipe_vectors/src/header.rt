@@ -1,6 +1,7 @@
 // The header of a vector, a line of hexadecimal fields of fixed width, parted by tabs. The recipe's text stands behind it.
 //
-//   text length 4 | flags 2 | D0..D7 8 each | A0..A7 8 each | D0..D7 after 8 each | flags after 2 | flags promised 2 | steps 4 | clocks 4
+//   text length 4 | flags 2 | D0..D7 8 each | A0..A7 8 each | D0..D7 after 8 each | flags after 2 | flags promised 2 | steps 4 | clocks 4 |
+//   middle 4 | D0..D7 there 8 each | flags there 2 | flags promised there 2
 //
 // `tools/recipe-vectors` makes vectors. Flags are X 16, N 8, Z 4, V 2, C 1.
 ghost use Prim.Native.Nat.{_+_, _<_, _≤_};
@@ -8,11 +9,19 @@ use alu::types::Flags;
 use step::registers::State;
 
 // Where x stands a digit is wanted; any other byte is wanted itself.
-const PICTURE: [u8; 240] =
-    *b"xxxx\txx\txxxxxxxx\txxxxxxxx\txxxxxxxx\txxxxxxxx\txxxxxxxx\txxxxxxxx\txxxxxxxx\txxxxxxxx\txxxxxxxx\txxxxxxxx\txxxxxxxx\txxxxxxxx\txxxxxxxx\txxxxxxxx\txxxxxxxx\txxxxxxxx\txxxxxxxx\txxxxxxxx\txxxxxxxx\txxxxxxxx\txxxxxxxx\txxxxxxxx\txxxxxxxx\txxxxxxxx\txx\txx\txxxx\txxxx\n";
+const PICTURE: [u8; 323] =
+    *b"xxxx\txx\txxxxxxxx\txxxxxxxx\txxxxxxxx\txxxxxxxx\txxxxxxxx\txxxxxxxx\txxxxxxxx\txxxxxxxx\txxxxxxxx\txxxxxxxx\txxxxxxxx\txxxxxxxx\txxxxxxxx\txxxxxxxx\txxxxxxxx\txxxxxxxx\txxxxxxxx\txxxxxxxx\txxxxxxxx\txxxxxxxx\txxxxxxxx\txxxxxxxx\txxxxxxxx\txxxxxxxx\txx\txx\txxxx\txxxx\txxxx\txxxxxxxx\txxxxxxxx\txxxxxxxx\txxxxxxxx\txxxxxxxx\txxxxxxxx\txxxxxxxx\txxxxxxxx\txx\txx\n";
 
-// The state that a recipe is run on, and what it ought to give: data registers, flags and which of them count, steps and clocks.
-// The address registers ought to stay.
+// A place behind some of the lines, and what ought to stand there: data registers, flags and which of them count.
+pub(crate) struct Middle {
+    pub place: u32,
+    pub data: [u32; 8],
+    pub flags: Flags,
+    pub promised: Flags,
+}
+
+// The state that a recipe is run on, and what it ought to give: data registers, flags and which of them count, steps and clocks;
+// and the middle. The address registers ought to stay.
 pub(crate) struct Vector {
     pub before: State,
     pub data: [u32; 8],
@@ -20,6 +29,7 @@ pub(crate) struct Vector {
     pub promised: Flags,
     pub steps: u32,
     pub clocks: u64,
+    pub middle: Middle,
 }
 
 fn is_digit(b: u8) -> bool {
@@ -34,9 +44,9 @@ fn fits(wanted: u8, b: u8) -> bool {
     }
 }
 
-pub(crate) fn is_header(head: &[u8; 240]) -> bool {
+pub(crate) fn is_header(head: &[u8; 323]) -> bool {
     let mut i = 0;
-    while i < 240 {
+    while i < 323 {
         if !fits(PICTURE[i], head[i]) {
             return false;
         }
@@ -53,29 +63,29 @@ fn digit(b: u8) -> u32
     if b < 64 { low } else { (low + 9) % 16 }
 }
 
-fn two(head: &[u8; 240], at: usize) -> u32
-    requires { ⌜ at + 2 ≤ 240 ⌝ }
+fn two(head: &[u8; 323], at: usize) -> u32
+    requires { ⌜ at + 2 ≤ 323 ⌝ }
     ensures { λ r. ⌜ r < 256 ⌝ }
 {
     digit(head[at]) * 16 + digit(head[at + 1])
 }
 
-fn four(head: &[u8; 240], at: usize) -> u32
-    requires { ⌜ at + 4 ≤ 240 ⌝ }
+fn four(head: &[u8; 323], at: usize) -> u32
+    requires { ⌜ at + 4 ≤ 323 ⌝ }
     ensures { λ r. ⌜ r < 65536 ⌝ }
 {
     two(head, at) * 0x100 + two(head, at + 2)
 }
 
-fn eight(head: &[u8; 240], at: usize) -> u32
-    requires { ⌜ at + 8 ≤ 240 ⌝ }
+fn eight(head: &[u8; 323], at: usize) -> u32
+    requires { ⌜ at + 8 ≤ 323 ⌝ }
 {
     four(head, at) * 0x1_0000 + four(head, at + 4)
 }
 
 // Eight registers.
-fn row(head: &[u8; 240], at: usize) -> [u32; 8]
-    requires { ⌜ at + 72 ≤ 240 ⌝ }
+fn row(head: &[u8; 323], at: usize) -> [u32; 8]
+    requires { ⌜ at + 72 ≤ 323 ⌝ }
 {
     [
         eight(head, at),
@@ -89,8 +99,8 @@ fn row(head: &[u8; 240], at: usize) -> [u32; 8]
     ]
 }
 
-fn flags(head: &[u8; 240], at: usize) -> Flags
-    requires { ⌜ at + 2 ≤ 240 ⌝ }
+fn flags(head: &[u8; 323], at: usize) -> Flags
+    requires { ⌜ at + 2 ≤ 323 ⌝ }
 {
     let bits = two(head, at);
     Flags {
@@ -102,15 +112,21 @@ fn flags(head: &[u8; 240], at: usize) -> Flags
     }
 }
 
-pub(crate) fn text_length(head: &[u8; 240]) -> usize {
+pub(crate) fn text_length(head: &[u8; 323]) -> usize {
     four(head, 0) as usize
 }
 
-pub(crate) fn read_header(head: &[u8; 240]) -> Vector {
+pub(crate) fn read_header(head: &[u8; 323]) -> Vector {
     let before = State {
         d: row(head, 8),
         a: row(head, 80),
         flags: flags(head, 5),
+    };
+    let middle = Middle {
+        place: four(head, 240),
+        data: row(head, 245),
+        flags: flags(head, 317),
+        promised: flags(head, 320),
     };
     Vector {
         before,
@@ -119,5 +135,6 @@ pub(crate) fn read_header(head: &[u8; 240]) -> Vector {
         promised: flags(head, 227),
         steps: four(head, 230),
         clocks: four(head, 235) as u64,
+        middle,
     }
 }

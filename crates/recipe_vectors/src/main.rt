@@ -1,6 +1,7 @@
-// Replays random recipes on random registers, halted at every place, against whole-number arithmetic. Standard input
-// has the vectors that `tools/recipe-vectors` makes; the file `stdin` has some of them. A vector that fails is
-// written out with its number and what failed first; one that is no vector ends the reading.
+// Replays random recipes on random registers, halted at every place and run as a whole, against whole-number arithmetic,
+// which tells registers and flags at the end and at the middle, a place behind some of the lines. Standard input has the
+// vectors that `tools/recipe-vectors` makes; the file `stdin` has some of them. A vector that fails is written out with its
+// number and what failed first; one that is no vector ends the reading.
 mod header;
 mod replay;
 
@@ -51,14 +52,14 @@ fn read_text(text: &mut [u8], n: usize) -> usize
 }
 
 // Reads the next vector, its header and its text.
-fn next(head: &mut [u8; 240], text: &mut [u8]) -> Input
+fn next(head: &mut [u8; 323], text: &mut [u8]) -> Input
     ensures { λ r. ⌜ Counts (r .length) (now (text .exit)) ⌝ }
 {
     let got = io::read_full(STDIN_FILENO, head);
     if got == 0 {
         return without_text(Came::End);
     }
-    if (got < 240) | !is_header(head) {
+    if (got < 323) | !is_header(head) {
         return without_text(Came::Malformed);
     }
     let length = text_length(head);
@@ -90,11 +91,13 @@ fn put_slip(slip: Slip) {
         Slip::Translation => put(b"the recipe is refused"),
         Slip::Count => put(b"the number of steps"),
         Slip::Halt => put(b"the halt"),
+        Slip::Middle => put(b"the middle"),
         Slip::End => put(b"the end"),
         Slip::Clocks => put(b"the clocks"),
         Slip::Data => put(b"the data registers"),
         Slip::Address => put(b"the address registers"),
         Slip::Flags => put(b"the flags"),
+        Slip::Recipe => put(b"the recipe run as a whole"),
     }
 }
 
@@ -134,7 +137,7 @@ fn all_vectors() -> Tally {
     };
     let mut turns: u32 = 0xffff_ffff;
     while turns > 0 {
-        let mut head = [0u8; 240];
+        let mut head = [0u8; 323];
         let mut text = [0u8; 1024];
         let input = next(&mut head, &mut text);
         let came = input.came;

@@ -1,9 +1,13 @@
-// Replays one vector: its text is read and translated, and the listing is run halted at every place.
+// Replays one vector: its text is read and translated, and the listing is run halted at every place; then the text is
+// run as a whole.
 ghost use Prim.Native.Nat.{_≤_};
 use crate::header::Vector;
 use alu::types::Flags;
 use recipes::reader::read;
+use recipes::runner::run_text;
 use recipes::translator::translate_array;
+use recipes::types::Codes;
+use recipes::types::RecipeRun;
 use recipes::types::number;
 use step::runs::End;
 use step::runs::Ran;
@@ -18,11 +22,13 @@ pub(crate) enum Slip {
     Translation,
     Count,
     Halt,
+    Middle,
     End,
     Clocks,
     Data,
     Address,
     Flags,
+    Recipe,
 }
 
 // The runs made, the first slip, and the place that the run was halted at.
@@ -46,6 +52,10 @@ pub(crate) fn is_slip(slip: Slip) -> bool {
     } else {
         true
     }
+}
+
+fn first_of(a: Slip, b: Slip) -> Slip {
+    if is_slip(a) { a } else { b }
 }
 
 // A run before its first step.
@@ -114,6 +124,33 @@ fn same_flags(promised: Flags, a: Flags, b: Flags) -> bool {
         & (!promised.c | (a.c == b.c))
 }
 
+// Whether a run that stands at the middle has there what is told.
+fn as_told(vector: Vector, ran: Ran) -> bool {
+    let before = vector.before;
+    let address = before.a;
+    let middle = vector.middle;
+    let data = middle.data;
+    let flags = middle.flags;
+    let promised = middle.promised;
+    let there = ran.state;
+    let d = there.d;
+    let a = there.a;
+    let f = there.flags;
+    same_registers(d, data) & same_registers(a, address) & same_flags(promised, f, flags)
+}
+
+// What is wrong with a run that ought to have halted at the place; what stands there is told only of the middle.
+fn judge_halt(vector: Vector, ran: Ran, place: u32) -> Slip {
+    let middle = vector.middle;
+    if !stands_at(ran, place, vector.steps) {
+        return Slip::Halt;
+    }
+    if (place == middle.place) & !as_told(vector, ran) {
+        return Slip::Middle;
+    }
+    Slip::Nothing
+}
+
 // What is wrong with a run that ought to be over.
 fn judge(vector: Vector, ran: Ran) -> Slip {
     let before = vector.before;
@@ -150,11 +187,7 @@ fn halted_at(vector: Vector, listing: [Step; 256], place: u32) -> Slip
     let count = vector.steps;
     let begun = continued(listing, count, not_begun(vector), place);
     let whole = continued(listing, count, begun, count - place);
-    if stands_at(begun, place, count) {
-        judge(vector, whole)
-    } else {
-        Slip::Halt
-    }
+    first_of(judge_halt(vector, begun, place), judge(vector, whole))
 }
 
 // The start and the end are places too.
@@ -181,20 +214,27 @@ fn step_by_step(vector: Vector, listing: [Step; 256]) -> Replayed {
     let mut runs: u64 = 1;
     let mut ran = continued(listing, count, not_begun(vector), 0);
     for place in 0..count {
-        if !stands_at(ran, place, count) {
-            return Replayed {
-                runs,
-                slip: Slip::Halt,
-                place,
-            };
+        let slip = judge_halt(vector, ran, place);
+        if is_slip(slip) {
+            return Replayed { runs, slip, place };
         }
         ran = continued(listing, count, ran, 1);
         runs = std::num::wrapping_add_u64(runs, 1);
     }
     Replayed {
         runs,
-        slip: judge(vector, ran),
+        slip: first_of(judge(vector, ran), judge_halt(vector, ran, count)),
         place: count,
+    }
+}
+
+// Runs without a slip, and those that were made next.
+fn then(first: Replayed, second: Replayed) -> Replayed {
+    let slip = second.slip;
+    Replayed {
+        runs: std::num::wrapping_add_u64(first.runs, second.runs),
+        slip,
+        place: second.place,
     }
 }
 
@@ -204,19 +244,57 @@ fn halted_everywhere(vector: Vector, listing: [Step; 256]) -> Replayed {
     if is_slip(slip) {
         return first;
     }
-    let second = step_by_step(vector, listing);
-    let slip = second.slip;
-    Replayed {
-        runs: std::num::wrapping_add_u64(first.runs, second.runs),
-        slip,
-        place: second.place,
+    then(first, step_by_step(vector, listing))
+}
+
+// All five flags are told where all are promised, and left open where only X is.
+fn same_codes(promised: Flags, codes: Codes, flags: Flags) -> bool {
+    let all = promised.x & promised.n & promised.z & promised.v & promised.c;
+    let only_x = promised.x & !(promised.n | promised.z | promised.v | promised.c);
+    match codes {
+        Codes::Open => only_x,
+        Codes::Known(told) => all & same_flags(promised, told, flags),
     }
 }
 
-pub(crate) fn replay(vector: Vector, text: &[u8]) -> Replayed {
+// What is wrong with a recipe that was run as a whole.
+fn judge_recipe(vector: Vector, run: RecipeRun) -> Slip {
+    let before = vector.before;
+    let address = before.a;
+    let data = vector.data;
+    let flags = vector.flags;
+    let promised = vector.promised;
+    let refusal = run.refusal;
+    let d = run.d;
+    let a = run.a;
+    let codes = run.codes;
+    let accepted = (number(refusal) == 0) & (run.line == 0);
+    let counted = (run.steps == vector.steps) & (run.clocks == vector.clocks);
+    let registers = same_registers(d, data) & same_registers(a, address);
+    let told = (run.x == flags.x) & same_codes(promised, codes, flags);
+    if accepted & counted & registers & told {
+        Slip::Nothing
+    } else {
+        Slip::Recipe
+    }
+}
+
+fn run_whole(vector: Vector, text: &[u8]) -> Replayed {
+    let before = vector.before;
+    let run = run_text(text, before);
+    Replayed {
+        runs: 1,
+        slip: judge_recipe(vector, run),
+        place: vector.steps,
+    }
+}
+
+// Its text is read and translated, and the listing is halted at every place.
+fn replay_listing(vector: Vector, text: &[u8]) -> Replayed {
     let reading = read(text);
     let refusal = reading.refusal;
     let recipe = reading.recipe;
+    let middle = vector.middle;
     if number(refusal) != 0 {
         return without_run(Slip::Reading);
     }
@@ -229,5 +307,18 @@ pub(crate) fn replay(vector: Vector, text: &[u8]) -> Replayed {
     if made.count != vector.steps as usize {
         return without_run(Slip::Count);
     }
+    // It would never be met.
+    if middle.place > vector.steps {
+        return without_run(Slip::Middle);
+    }
     halted_everywhere(vector, listing)
+}
+
+pub(crate) fn replay(vector: Vector, text: &[u8]) -> Replayed {
+    let first = replay_listing(vector, text);
+    let slip = first.slip;
+    if is_slip(slip) {
+        return first;
+    }
+    then(first, run_whole(vector, text))
 }

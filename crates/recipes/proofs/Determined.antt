@@ -28,17 +28,20 @@ use Rattle.recipes.specs.Text.{Written, written, writing}
 use Rattle.recipes.specs.Reader.{readOf}
 use Rattle.recipes.specs.Listing.{translated, translateOf}
 use Rattle.recipes.specs.Printer.{listingText, refusalText, printedOf, answerOf}
+use Rattle.recipes.specs.Demand.{textRunOf}
 use Rattle.recipes.proofs.types.number.Reads as number
 use Rattle.recipes.proofs.translator.translate_array.Reads as translate-array
+use Rattle.recipes.proofs.runner.run_recipe.Reads as run-recipe
 use Rattle.recipes.proofs.reader.read as read
 use Rattle.recipes.proofs.lent.translate as translate
 use Rattle.recipes.proofs.printer.print as print
 use Rattle.recipes.proofs.printer.print_refusal as print-refusal
 use Rattle.recipes.proofs.printer.print_recipe as print-recipe
 use Rattle.recipes.proofs.printer.answer as answer
+use Rattle.recipes.proofs.runner.run_text as run-text
 
 pub determined : List Fixed
-determined = fixed number.Learnt (one-equation _) ∷ fixed translate-array.Learnt (one-equation _) ∷ []
+determined = fixed number.Learnt (one-equation _) ∷ fixed translate-array.Learnt (one-equation _) ∷ fixed run-recipe.Learnt (one-equation _) ∷ []
 
 pub written-parts : (p p′ : List ℕ) (r r′ : ℕ) → written p r ≡ written p′ r′ → (p ≡ p′) × (r ≡ r′)
 written-parts p p′ r r′ e = (ap (λ (w : Written). w .bytes) e, ap (λ (w : Written). w .length) e)
@@ -65,3 +68,6 @@ module _ {M : Type 1} (𝓤 : URA M) (H : Heap 𝓤) (A : Atoms 𝓤) (mem : Mem
 
   pub answer-determined : (κs : Lfts 2) (a : Args answer.signature κs) → OneExit 𝓤 (λ r e. written (now (e .1 .0)) r) (answer.clauses 𝓤 H A mem go κs a .ensures tt)
   answer-determined κs a = record { of = writing (now (a .1 .0)) (answerOf (now (a .0))); is = λ r e. refl }
+
+  pub run-text-determined : (κs : Lfts 1) (a : Args run-text.signature κs) → OneExit 𝓤 (λ r e. r) (run-text.clauses 𝓤 H A mem go κs a .ensures tt)
+  run-text-determined κs a = record { of = textRunOf (now (a .0)) (a .1 .0); is = λ r e. refl }

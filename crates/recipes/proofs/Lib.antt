@@ -21,4 +21,6 @@ mod Doing
 pub mod Demand
 mod RunByRule
 pub mod Room
+pub mod Sums
+pub mod Excluded
 pub mod Determined

@@ -5,4 +5,5 @@ pub mod Listing
 pub mod Printer
 pub mod Rule
 pub mod Demand
+pub mod Sums
 pub mod Making

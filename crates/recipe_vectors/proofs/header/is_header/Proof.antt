@@ -5,10 +5,10 @@ use Rattle.recipe_vectors.proofs.header.is_header.Statement.{statement}
 use Rattle.recipe_vectors.proofs.header.is_header.Tie as tie
 
 abbrev Inv-loop : tie.InvT-loop
-Inv-loop head i₀ i = i ≤ 240
+Inv-loop head i₀ i = i ≤ 323
 
 abbrev μ-loop : tie.MeasureT-loop
-μ-loop head i₀ i = 240 - i
+μ-loop head i₀ i = 323 - i
 
 loop-holds : tie.Need-loop-holds Inv-loop μ-loop
 loop-holds c = search needs

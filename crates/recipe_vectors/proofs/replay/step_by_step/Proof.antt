@@ -19,8 +19,11 @@ continued-requires c κs = search needs
 loop-holds : tie.Need-loop-holds Inv-loop μ-loop
 loop-holds c = search needs
 
-stands-at-requires : tie.Need-stands-at-requires Inv-loop μ-loop
-stands-at-requires c κs = search needs
+judge-halt-requires : tie.Need-judge-halt-requires Inv-loop μ-loop
+judge-halt-requires c κs = search needs
+
+is-slip-requires : tie.Need-is-slip-requires Inv-loop μ-loop
+is-slip-requires c κs = search needs
 
 returns : tie.Need-returns Inv-loop μ-loop
 returns c = search needs
@@ -43,6 +46,12 @@ loop-again c = search needs
 judge-requires : tie.Need-judge-requires Inv-loop μ-loop
 judge-requires c κs = search needs
 
+judge-halt-requires-2 : tie.Need-judge-halt-requires-2 Inv-loop μ-loop
+judge-halt-requires-2 c κs = search needs
+
+first-of-requires : tie.Need-first-of-requires Inv-loop μ-loop
+first-of-requires c κs = search needs
+
 returns-2 : tie.Need-returns-2 Inv-loop μ-loop
 returns-2 c = search needs
 
@@ -55,7 +64,8 @@ step-by-step-spec =
     not-begun-requires
     continued-requires
     loop-holds
-    stands-at-requires
+    judge-halt-requires
+    is-slip-requires
     returns
     continued-requires-2
     wrapping-add-u64-requires
@@ -63,4 +73,6 @@ step-by-step-spec =
     loop-less
     loop-again
     judge-requires
+    judge-halt-requires-2
+    first-of-requires
     returns-2)

@@ -1,0 +1,132 @@
+-- Document 01, "What each statement must exclude", for demands 2 and 3: each wrong version is shown not to satisfy the statement. Assumes nothing.
+--     refuses-all      one that refuses all
+--     constant-sum     one constant answer, of an operation, by sums 1 and 2; constant-run: of a recipe
+--     does-nothing     one that does nothing, by `neg`
+--     idles            a run that does its work in the first step and idles after
+--     made-up-count    a made-up step count: it is the next place less the start place
+--     carry-dropped    a carry dropped between two words: ADD where ADDX should be
+use mathlib.Core.Path.{_≡_, refl, sym, ap, _∙_}
+use mathlib.Core.Bool.{true, false, true≢false}
+use mathlib.Core.List.{List, [], _∷_}
+use Prim.Native.Nat.{ℕ, suc, _+_, _-_, _^_}
+use native.Mathlib.Omega.{arith}
+use lib.ListN.{getD, replicate}
+use Rattle.alu.specs.declared.types.Size.the-variants.{Byte}
+use Rattle.alu.specs.declared.types.Flags.{Flags}
+use Rattle.alu.specs.declared.types.Answer.{Answer}
+use Rattle.alu.specs.Bits.{top}
+use Rattle.alu.specs.ConditionCodes.{addFlags, negFlags}
+use Rattle.alu.specs.Arith.{sum, difference, addOf}
+use Rattle.step.specs.declared.registers.State.{State}
+use Rattle.step.specs.declared.steps.TwoOp.the-variants as TwoOp
+use Rattle.step.specs.declared.steps.Step.{Step}
+use Rattle.step.specs.declared.runs.Ran.{Ran}
+use Rattle.step.specs.Perform.{performOf}
+use Rattle.step.specs.Run.{runOf}
+use Rattle.step.proofs.Laws.{run-next}
+use Rattle.recipes.specs.declared.types.Verb.the-variants.{Add, Neg}
+use Rattle.recipes.specs.declared.types.Line.{Line}
+use Rattle.recipes.specs.declared.types.RecipeRun.{RecipeRun}
+use Rattle.recipes.specs.Text.{ascii, sameBytes, before, after}
+use Rattle.recipes.specs.Recipe.{isNothing, checkedOf}
+use Rattle.recipes.specs.Reader.{verbOf, digitOf, lineOf, linesOf, widthLine, readOf}
+use Rattle.recipes.specs.Listing.{two, risingRest, lineSteps, listingOf}
+use Rattle.recipes.specs.Rule.{numbersOf, registersOf, saidBy, rulesOf}
+use Rattle.recipes.specs.Demand.{Meets, textRunOf}
+
+abbrev noFlags : Flags
+noFlags = record { x = false; n = false; z = false; v = false; c = false }
+
+-- D0 to D3, and 0 in the other registers
+abbrev from : (d0 d1 d2 d3 : ℕ) → State
+from d0 d1 d2 d3 = record { d = d0 ∷ d1 ∷ d2 ∷ d3 ∷ 0 ∷ 0 ∷ 0 ∷ 0 ∷ []; a = replicate 8 0; flags = noFlags }
+
+-- ---- the answers of a function that meets the contract of `run_text`
+
+abbrev Meeting : (List ℕ → State → RecipeRun) → Type 0
+Meeting f = (text : List ℕ) (s : State) → f text s ≡ textRunOf text s
+
+empty-accepted : isNothing (textRunOf (ascii "width\t1\n") (from 0 0 0 0) .refusal) ≡ true
+unfolding textRunOf readOf linesOf widthLine digitOf sameBytes before after
+empty-accepted = refl
+
+pub refuses-all : (f : List ℕ → State → RecipeRun) → Meeting f → ((text : List ℕ) (s : State) → isNothing (f text s .refusal) ≡ false) → ⊥
+refuses-all f meets refuses =
+    true≢false (sym empty-accepted ∙ (ap (λ (r : RecipeRun). isNothing (r .refusal)) (sym (meets _ (from 0 0 0 0))) ∙ refuses _ (from 0 0 0 0)))
+
+-- 1 is negated to FFFFFFFF
+negated : getD (textRunOf (ascii "width\t1\nneg\t0\n") (from 1 0 0 0) .d) 0 0 ≡ 0xffff_ffff
+unfolding textRunOf readOf linesOf lineOf verbOf digitOf widthLine sameBytes before after checkedOf rulesOf registersOf
+negated = refl
+
+pub does-nothing : (f : List ℕ → State → RecipeRun) → Meeting f → ((text : List ℕ) (s : State) → f text s .d ≡ s .d) → ⊥
+does-nothing f meets stays =
+    let e : _≡_ {A = ℕ} 1 0xffff_ffff =
+    ap (λ (d : List ℕ). getD d 0 0) (sym (stays (ascii "width\t1\nneg\t0\n") (from 1 0 0 0)) ∙ ap (λ (r : RecipeRun). r .d) (meets _ (from 1 0 0 0))) ∙ negated in
+    omega arith
+
+-- without a line 0 stays 0
+kept : getD (textRunOf (ascii "width\t1\n") (from 0 0 0 0) .d) 0 0 ≡ 0
+unfolding textRunOf readOf linesOf widthLine digitOf sameBytes before after rulesOf registersOf
+kept = refl
+
+pub constant-run : (r : RecipeRun) → ((text : List ℕ) (s : State) → r ≡ textRunOf text s) → ⊥
+constant-run r same =
+    let d0 : RecipeRun → ℕ = λ r. getD (r .d) 0 0 in
+    let e : _≡_ {A = ℕ} 0 0xffff_ffff = sym kept ∙ (sym (ap d0 (same _ (from 0 0 0 0))) ∙ (ap d0 (same (ascii "width\t1\nneg\t0\n") (from 1 0 0 0)) ∙ negated)) in
+    omega arith
+
+-- ---- operations
+
+pub constant-sum : (a : Answer) → ((s d : ℕ) (f : Flags) → a ≡ addOf Byte s d f) → ⊥
+unfolding sum
+constant-sum a same =
+    let e : _≡_ {A = ℕ} 0x80 0x00 = ap (λ (r : Answer). r .result) (sym (same 0x01 0x7f noFlags) ∙ same 0x01 0xff noFlags) in
+    omega arith
+
+-- ---- runs
+
+-- document 01's recipe, `add 0 1` and `neg 1` at width 2, as sum 12 starts it
+abbrev listing : List Step
+listing = listingOf 2 (record { verb = Add; a = 0; b = 1 } ∷ record { verb = Neg; a = 1; b = 0 } ∷ [])
+
+abbrev start : State
+start = from 1 0 0xffff_ffff 0
+
+after-one : getD (runOf performOf listing start 0 1 .state .d) 3 0 ≡ 0
+unfolding runOf listingOf lineSteps risingRest top sum difference addFlags negFlags
+after-one = refl
+
+after-four : getD (runOf performOf listing start 0 4 .state .d) 3 0 ≡ 0xffff_ffff
+unfolding runOf listingOf lineSteps risingRest top sum difference addFlags negFlags
+after-four = refl
+
+pub idles : (g : ℕ → Ran) → ((b : ℕ) → g b ≡ runOf performOf listing start 0 b) → ((b : ℕ) → g (suc b) .state ≡ g 1 .state) → ⊥
+idles g meets idle =
+    let d3 : Ran → ℕ = λ r. getD (r .state .d) 3 0 in
+    let e : _≡_ {A = ℕ} 0xffff_ffff 0 = sym after-four ∙ (sym (ap d3 (meets 4)) ∙ (ap (λ (s : State). getD (s .d) 3 0) (idle 3) ∙ (ap d3 (meets 1) ∙ after-one))) in
+    omega arith
+
+pub made-up-count : (l : List Step) (s : State) (p b : ℕ) (r : Ran) → r ≡ runOf performOf l s p b → r .steps ≡ r .next - p
+made-up-count l s p b r meets =
+    let e : r .next ≡ p + r .steps = ap (λ (r : Ran). r .next) meets ∙ (run-next performOf l s p b ∙ ap (λ (r : Ran). p + r .steps) (sym meets)) in omega arith
+
+-- `add 0 1` at width 2 without its ADDX: 1 and FFFFFFFF make 0 where they should make 2 ^ 32
+abbrev adding : List Line
+adding = record { verb = Add; a = 0; b = 1 } ∷ []
+
+abbrev dropping : Ran
+dropping = runOf performOf (two TwoOp.Add 0 2 ∷ two TwoOp.Add 1 3 ∷ []) start 0 256
+
+carry-is-gone : getD (numbersOf 2 (dropping .state .d)) 1 0 ≡ 0
+unfolding runOf top sum addFlags
+carry-is-gone = refl
+
+carry-is-due : getD (rulesOf 2 adding (saidBy 2 start) .numbers) 1 0 ≡ 2 ^ 32
+unfolding rulesOf
+carry-is-due = refl
+
+pub carry-dropped : Meets 2 adding start dropping → ⊥
+carry-dropped meets =
+    let e : _≡_ {A = ℕ} 0 0x1_0000_0000 = sym carry-is-gone ∙ (ap (λ (ns : List ℕ). getD ns 1 0) (meets .rule .numbers) ∙ carry-is-due) in
+    omega arith
