@@ -3,7 +3,7 @@ pub mod Signed
 mod Bitwise
 mod Formulas
 mod Whole
-mod Minus
+pub mod Minus
 pub mod Laws
 pub mod Integers
 pub mod Wide
@@ -16,5 +16,6 @@ pub mod Bitops
 mod Overflow
 pub mod Counts
 pub mod Products
+pub mod Masked
 pub mod Sums
 pub mod Determined

@@ -1,4 +1,5 @@
--- A chain of words, whatever the operation: a balance that each word keeps with the carry in and out is kept by the whole number. Assumes nothing.
+-- A chain of words, whatever the operation: a balance that each word keeps with the carry in and out is kept by the whole number. A word is here what a
+-- register holds, 32 bits. Assumes nothing.
 --     low-kept, high-kept   the balance of the whole number, lowest word first and highest word first
 --     low-linked            N, Z, V and C of the whole number, lowest word first
 use mathlib.Core.Path.{_≡_, refl, sym, ap, _∙_, subst₃}
@@ -14,14 +15,14 @@ use lib.ListN.{length}
 use Rattle.alu.specs.declared.types.Flags.{Flags}
 use Rattle.alu.specs.Bits.{top}
 use Rattle.step.proofs.Promises.{Left, Linked}
-use Rattle.recipes.specs.Rule.{word, value}
+use Rattle.recipes.specs.Rule.{radix, value}
 
 -- ---- M = 2^(32w), a word at a time
 
 abbrev pub modulus : ℕ → ℕ
 modulus w = 2 ^ (32 * w)
 
-pub modulus-suc : (n : ℕ) → modulus (suc n) ≡ word * modulus n
+pub modulus-suc : (n : ℕ) → modulus (suc n) ≡ radix * modulus n
 modulus-suc n = ap (λ (k : ℕ). 2 ^ k) (mul-suc 32 n ∙ add-comm (32 * n) 32) ∙ pow-add 2 32 (32 * n)
 
 -- ---- rows of words
@@ -47,7 +48,7 @@ targets (p ∷ ps) = p .1 ∷ targets ps
 
 abbrev pub Bounded : Pairs → Type 0
 Bounded [] = Unit {0}
-Bounded (p ∷ ps) = (p .0 < word) × (p .1 < word) × Bounded ps
+Bounded (p ∷ ps) = (p .0 < radix) × (p .1 < radix) × Bounded ps
 
 -- they are numbers of n words: sources S, targets D
 pub record Are (ps : Pairs) (n S D : ℕ) : Type 0 where
@@ -95,14 +96,14 @@ right β s d r = β .rs * s + β .rt * d + β .rr * r
 abbrev pub Kept : Balance → ℕ → ℕ → ℕ → ℕ → ℕ → ℕ → Type 0
 Kept β M i s d r o = left β s d r + i ≡ right β s d r + M * o
 
-link : (β : Balance) (M i s d r m S D R o : ℕ) → Kept β word i s d r m → Kept β M m S D R o
-    → Kept β (word * M) i (s + word * S) (d + word * D) (r + word * R) o
+link : (β : Balance) (M i s d r m S D R o : ℕ) → Kept β radix i s d r m → Kept β M m S D R o
+    → Kept β (radix * M) i (s + radix * S) (d + radix * D) (r + radix * R) o
 link β M i s d r m S D R o h t = omega arith
 
 -- a number of n words is below 2^(32n)
 abbrev pub AllBelow : List ℕ → Type 0
 AllBelow [] = Unit {0}
-AllBelow (d ∷ ds) = (d < word) × AllBelow ds
+AllBelow (d ∷ ds) = (d < radix) × AllBelow ds
 
 pub value-below : (ds : List ℕ) → AllBelow ds → value ds < modulus (length ds)
 value-below [] h = omega arith
@@ -111,14 +112,14 @@ value-below (d ∷ ds) h = omega (arith, modulus-suc (length ds), value-below ds
 -- ---- signs, and zero
 
 -- the top bit of the whole is the highest word's
-top-cons : (n d v : ℕ) → d < word → top (32 * suc n) v ≡ top (32 * suc (suc n)) (d + word * v)
+top-cons : (n d v : ℕ) → d < radix → top (32 * suc n) v ≡ top (32 * suc (suc n)) (d + radix * v)
 unfolding top
 top-cons n d v h =
     let e : 32 * suc (suc n) - 1 ≡ 32 + (32 * suc n - 1) = omega arith in
-    let up : (d + word * v) / word ≡ v = add-mul-div-left d v (lit< tt) ∙ ap (λ (k : ℕ). k + v) (div-eq-of-lt h) ∙ zero-add v in
+    let up : (d + radix * v) / radix ≡ v = add-mul-div-left d v (lit< tt) ∙ ap (λ (k : ℕ). k + v) (div-eq-of-lt h) ∙ zero-add v in
     ap (λ (k : ℕ). eqb (k % 2) 1)
-    (ap (λ (k : ℕ). k / 2 ^ (32 * suc n - 1)) (sym up) ∙ div-div-eq-div-mul (d + word * v) word (2 ^ (32 * suc n - 1))
-    ∙ ap (λ (k : ℕ). (d + word * v) / k) (sym (ap (λ (k : ℕ). 2 ^ k) e ∙ pow-add 2 32 (32 * suc n - 1))))
+    (ap (λ (k : ℕ). k / 2 ^ (32 * suc n - 1)) (sym up) ∙ div-div-eq-div-mul (d + radix * v) radix (2 ^ (32 * suc n - 1))
+    ∙ ap (λ (k : ℕ). (d + radix * v) / k) (sym (ap (λ (k : ℕ). 2 ^ k) e ∙ pow-add 2 32 (32 * suc n - 1))))
 
 abbrev pub highest : ℕ → List ℕ → ℕ
 highest d [] = d
@@ -129,27 +130,27 @@ highest-top d [] h = ap (top 32) (sym (add-zero d))
 highest-top d (e ∷ ds) h = highest-top e ds (h .1) ∙ top-cons (length ds) d (value (e ∷ ds)) (h .0)
 
 -- a number is 0 if its words are
-zero-both : (d v : ℕ) → eqb d 0 && eqb v 0 ≡ eqb (d + word * v) 0
+zero-both : (d v : ℕ) → eqb d 0 && eqb v 0 ≡ eqb (d + radix * v) 0
 zero-both d v = go (eqb d 0) (eqb v 0) refl refl
   where
-    go : (a b : Bool) → eqb d 0 ≡ a → eqb v 0 ≡ b → eqb d 0 && eqb v 0 ≡ eqb (d + word * v) 0
-    go true true e f = rw (e, f) (sym (eq-eqb (d + word * v) 0 (omega (arith, eqb-true d 0 e, eqb-true v 0 f))))
-    go true false e f = rw (e, f) (sym (ne-eqb (d + word * v) 0 (λ h. eqb-false v 0 f (omega arith))))
-    go false b e f = rw e (sym (ne-eqb (d + word * v) 0 (λ h. eqb-false d 0 e (omega arith))))
+    go : (a b : Bool) → eqb d 0 ≡ a → eqb v 0 ≡ b → eqb d 0 && eqb v 0 ≡ eqb (d + radix * v) 0
+    go true true e f = rw (e, f) (sym (eq-eqb (d + radix * v) 0 (omega (arith, eqb-true d 0 e, eqb-true v 0 f))))
+    go true false e f = rw (e, f) (sym (ne-eqb (d + radix * v) 0 (λ h. eqb-false v 0 f (omega arith))))
+    go false b e f = rw e (sym (ne-eqb (d + radix * v) 0 (λ h. eqb-false d 0 e (omega arith))))
 
-zero-under : (z : Bool) (d v : ℕ) → (z && eqb d 0) && eqb v 0 ≡ z && eqb (d + word * v) 0
+zero-under : (z : Bool) (d v : ℕ) → (z && eqb d 0) && eqb v 0 ≡ z && eqb (d + radix * v) 0
 zero-under true d v = zero-both d v
 zero-under false d v = refl
 
 -- a linked word below a linked number: together they are a linked number
-linked-cons : (n : ℕ) (over : Bool → Bool → Bool → Bool) (f : Flags) (s d S D : ℕ) (r R : Left) → s < word → d < word
+linked-cons : (n : ℕ) (over : Bool → Bool → Bool → Bool) (f : Flags) (s d S D : ℕ) (r R : Left) → s < radix → d < radix
     → Linked 32 f (over (top 32 s) (top 32 d) (top 32 (r .result))) r
     → Linked (32 * suc n) (r .flags)
     (over (top (32 * suc n) S) (top (32 * suc n) D) (top (32 * suc n) (R .result))) R
     → Linked (32 * suc (suc n)) f
-    (over (top (32 * suc (suc n)) (s + word * S)) (top (32 * suc (suc n)) (d + word * D))
-    (top (32 * suc (suc n)) (r .result + word * R .result)))
-    (record { result = r .result + word * R .result; flags = R .flags })
+    (over (top (32 * suc (suc n)) (s + radix * S)) (top (32 * suc (suc n)) (d + radix * D))
+    (top (32 * suc (suc n)) (r .result + radix * R .result)))
+    (record { result = r .result + radix * R .result; flags = R .flags })
 linked-cons n over f s d S D r R hs hd w t =
     record {
       below = omega (arith, w .below, t .below, modulus-suc (suc n));
@@ -172,7 +173,7 @@ module _ (g : Word) where
   high-length [] f = refl
   high-length (p ∷ ps) f = ap suc (high-length ps f)
 
-  module _ (below : (s d : ℕ) (f : Flags) → s < word → d < word → g s d f .result < word) where
+  module _ (below : (s d : ℕ) (f : Flags) → s < radix → d < radix → g s d f .result < radix) where
     pub low-below : (ps : Pairs) (f : Flags) → Bounded ps → AllBelow (low g ps f .words)
     low-below [] f h = tt
     low-below (p ∷ ps) f h = (below _ _ _ (h .0) (h .1), low-below ps _ (h .2))
@@ -183,7 +184,7 @@ module _ (g : Word) where
 
   module _ (β : Balance) (carry : Flags → ℕ) where
     -- lowest first: a word takes the carry in and leaves the carry out
-    module _ (h : (s d : ℕ) (f : Flags) → s < word → d < word → Kept β word (carry f) s d (g s d f .result) (carry (g s d f .flags)))
+    module _ (h : (s d : ℕ) (f : Flags) → s < radix → d < radix → Kept β radix (carry f) s d (g s d f .result) (carry (g s d f .flags)))
       where
         low-keeps : (ps : Pairs) (f : Flags) → Bounded ps
             → Kept β (modulus (length ps)) (carry f) (value (sources ps)) (value (targets ps)) (value (low g ps f .words))
@@ -199,7 +200,7 @@ module _ (g : Word) where
             (r .source) (r .goal) (low-keeps ps f (r .bounded))
 
     -- highest first: the other way round
-    module _ (h : (s d : ℕ) (f : Flags) → s < word → d < word → Kept β word (carry (g s d f .flags)) s d (g s d f .result) (carry f))
+    module _ (h : (s d : ℕ) (f : Flags) → s < radix → d < radix → Kept β radix (carry (g s d f .flags)) s d (g s d f .result) (carry f))
       where
         high-keeps : (ps : Pairs) (f : Flags) → Bounded ps
             → Kept β (modulus (length ps)) (carry (high g ps f .flags)) (value (sources ps)) (value (targets ps))
@@ -215,14 +216,14 @@ module _ (g : Word) where
             (r .source) (r .goal) (high-keeps ps f (r .bounded))
 
   -- what each word's flags keep, the last word's keep
-  pub low-flags : (P : Flags → Type 0) → ((s d : ℕ) (f : Flags) → s < word → d < word → P f → P (g s d f .flags))
+  pub low-flags : (P : Flags → Type 0) → ((s d : ℕ) (f : Flags) → s < radix → d < radix → P f → P (g s d f .flags))
       → (ps : Pairs) (f : Flags) → Bounded ps → P f → P (low g ps f .flags)
   low-flags P h [] f b t = t
   low-flags P h (p ∷ ps) f b t = low-flags P h ps _ (b .2) (h _ _ f (b .0) (b .1) t)
 
   -- a chain of words that are linked is linked: w words of 32 bits are one number of 32w
   module _ (over : Bool → Bool → Bool → Bool)
-      (linked : (s d : ℕ) (f : Flags) → s < word → d < word
+      (linked : (s d : ℕ) (f : Flags) → s < radix → d < radix
       → Linked 32 f (over (top 32 s) (top 32 d) (top 32 (g s d f .result))) (g s d f))
     where
       low-links : (p : ℕ × ℕ) (ps : Pairs) (f : Flags) → Bounded (p ∷ ps)

@@ -2,9 +2,9 @@
 -- keeps the promises of the step machine (`Steps`); the machine's own does (`performs`). Assumes nothing.
 --     demand-3           Demand3 of specs/Demand
 --     halted-behind      HaltedBehind: halted behind the steps of its first lines, the registers and flags are as those lines leave them
---     one-by-one         CalledOneByOne: it holds for whoever calls the translator and the run one by one
+--     one-by-one         CalledOneByOne: it holds for whoever calls the translator and the run one by one; from-text: and the reader before them
 --     steps-few          an accepted recipe has at most 256 steps
---     meets-one          two runs that meet the rule are equal, once their flags are; `meets-x`: their X is; `meets-flags`: after add, sub and neg, all five
+--     meets-one          two runs that meet the rule and end alike are equal, once their flags are; `meets-x`: their X is; `meets-flags`: after add, sub and neg, all five
 --     ruled-registers    the rule's numbers determine the registers
 use mathlib.Core.Path.{_≡_, refl, sym, ap, ap₂, _∙_, subst, subst⁻¹}
 use mathlib.Core.Bool.{Bool, true, false, _||_, false≢true}
@@ -25,7 +25,7 @@ use Rattle.step.specs.declared.runs.Ran.{Ran}
 use Rattle.step.specs.Perform.{performOf}
 use Rattle.step.specs.Run.{ends, runOf}
 use Rattle.step.specs.Parts.{after, goesOn, runInParts, total}
-use Rattle.step.proofs.Laws.{spot-end, run-end}
+use Rattle.step.proofs.Laws.{spot-end, run-end, run-in-parts, parts-go}
 use Rattle.step.proofs.Promises.{Alu, Legal, Steps, performs}
 use Rattle.step.proofs.Leading.{All, executed, figures, Stands, stands-first, stands-left, stands-right, Leads, leads-none, leads-then, leads-like, leads-through, leads-in-parts, idle}
 use Rattle.recipes.specs.declared.types.Line.{Line}
@@ -34,37 +34,37 @@ use Rattle.recipes.specs.declared.types.Listing.{Listing}
 use Rattle.recipes.specs.declared.types.Codes.{Codes}
 use Rattle.recipes.specs.declared.types.Codes.the-variants.{Known}
 use Rattle.recipes.specs.Recipe.{isNothing, isWidth, target, recipeLines, Names, Accepted}
-use Rattle.recipes.specs.Listing.{lineSteps, listingOf, stepsAt, stepsOf, over, translateOf}
-use Rattle.recipes.specs.Printer.{figureOf, clocksOf}
-use Rattle.recipes.specs.Rule.{numbersOf, registersOf, codesOf, Numbers, saidBy, ruleOf, rulesOf}
-use Rattle.recipes.specs.Demand.{Words, Holds, Ruled, Meets, Demand3, HaltedBehind, CalledOneByOne}
+use Rattle.recipes.specs.Reader.{readOf}
+use Rattle.recipes.specs.Listing.{lineSteps, listingOf, stepsAt, stepsOf, over, translateOf, figureOf, clocksOf}
+use Rattle.recipes.specs.Rule.{numbersOf, registersOf, codesOf, Account, saidBy, ruleOf, rulesOf}
+use Rattle.recipes.specs.Demand.{EightLongs, Holds, Ruled, Meets, Finishes, Demand3, HaltedBehind, CalledOneByOne, FromText}
 use Rattle.recipes.proofs.Steps.{line-length, listing-steps}
 use Rattle.recipes.proofs.Accepting.{Good, width-is}
 use Rattle.recipes.proofs.Settling.{few-steps}
-use Rattle.recipes.proofs.Agreeing.{good-translates, translated-good}
+use Rattle.recipes.proofs.Agreeing.{read-sound, good-translates, translated-good}
 use Rattle.recipes.proofs.Legal.{line-legal, listing-legal, figure-same}
-use Rattle.recipes.proofs.Numbers.{numbers-stored, words-kept, registers-back}
+use Rattle.recipes.proofs.Numbers.{numbers-stored, longs-kept, registers-back}
 use Rattle.recipes.proofs.Doing.{Does, num, line-does}
 
 -- ---- one line
 
 -- a line goes by the numbers and X alone
-rule-said : (w : ℕ) (l : Line) (s₀ s : State) (r : Numbers) → Ruled w r s₀ s → ruleOf w l (saidBy w s) ≡ ruleOf w l r
+rule-said : (w : ℕ) (l : Line) (s₀ s : State) (r : Account) → Ruled w r s₀ s → ruleOf w l (saidBy w s) ≡ ruleOf w l r
 rule-said w l s₀ s r says =
-    ap₂ {C = Numbers} (λ (ns : List ℕ) (x : Bool). ruleOf w l (record { numbers = ns; x = x; codes = r .codes })) (says .numbers) (says .x)
+    ap₂ {C = Account} (λ (ns : List ℕ) (x : Bool). ruleOf w l (record { numbers = ns; x = x; codes = r .codes })) (says .numbers) (says .x)
 
-line-ruled : (w : ℕ) (l : Line) (s₀ s t : State) (r : Numbers) → Ruled w r s₀ s → Names (8 / w) l → Does w (l .verb) (l .a) (target l) s t → Ruled w (ruleOf w l r) s₀ t
+line-ruled : (w : ℕ) (l : Line) (s₀ s t : State) (r : Account) → Ruled w r s₀ s → Names (8 / w) l → Does w (l .verb) (l .a) (target l) s t → Ruled w (ruleOf w l r) s₀ t
 line-ruled w l s₀ s t r says named does =
-    subst (λ (q : Numbers). Ruled w q s₀ t) (rule-said w l s₀ s r says)
+    subst (λ (q : Account). Ruled w q s₀ t) (rule-said w l s₀ s r says)
     (record {
       numbers =
           ap (λ (u : State). numbersOf w (u .d)) (does .lands)
-          ∙ (numbers-stored w (s .d) (does .row .words) (target l) (says .words .count) (does .size) (named .goal)
+          ∙ (numbers-stored w (s .d) (does .row .words) (target l) (says .longs .count) (does .size) (named .goal)
           ∙ ap (set (numbersOf w (s .d)) (target l)) (does .result));
       x = ap (λ (u : State). u .flags .x) (does .lands) ∙ does .x;
       codes = subst⁻¹ (λ (u : State). Holds (codesOf (32 * w) (l .verb) (num w s (l .a)) (num w s (target l))) (u .flags)) (does .lands) (does .codes);
       addresses = ap (λ (u : State). u .a) (does .lands) ∙ says .addresses;
-      words = subst⁻¹ (λ (u : State). Words (u .d)) (does .lands) (words-kept (target l * w) (s .d) (does .row .words) (says .words) (does .below));
+      longs = subst⁻¹ (λ (u : State). EightLongs (u .d)) (does .lands) (longs-kept (target l * w) (s .d) (does .row .words) (says .longs) (does .below));
     })
 
 -- ---- all lines
@@ -75,13 +75,13 @@ figures-append figure (k ∷ ks) ls = ap (λ (c : ℕ). figure k + c) (figures-a
 
 module _ (f : State → Step → Performed) (step : Steps f) (n : ℕ) (l : List Step) (s₀ : State) where
   -- from place p, n steps of c clocks in all lead to place q and to a state that says r
-  record Came (p : ℕ) (s : State) (steps clocks : ℕ) (r : Numbers) (q : ℕ) : Type 0 where
+  record Came (p : ℕ) (s : State) (steps clocks : ℕ) (r : Account) (q : ℕ) : Type 0 where
     state : State
     leads : Leads f l s p steps clocks state q
     rule : Ruled (suc n) r s₀ state
 
   -- the lines' steps lead to what the rule makes of r
-  lines-lead : (ls : List Line) (p : ℕ) (s : State) (r : Numbers) → Accepted (suc n) ls → Ruled (suc n) r s₀ s → Stands l p (listingOf (suc n) ls)
+  lines-lead : (ls : List Line) (p : ℕ) (s : State) (r : Account) → Accepted (suc n) ls → Ruled (suc n) r s₀ s → Stands l p (listingOf (suc n) ls)
       → Came p s (stepsOf (suc n) ls) (figures (step .figure) (listingOf (suc n) ls)) (rulesOf (suc n) ls r) (p + stepsOf (suc n) ls)
   unfolding listingOf stepsOf rulesOf
   lines-lead [] p s r h says at =
@@ -90,7 +90,7 @@ module _ (f : State → Step → Performed) (step : Steps f) (n : ℕ) (l : List
       let m : Alu = step .alu in
       let ks : List Step = lineSteps (suc n) k in
       let t : State = executed m ks s in
-      let now : Ruled (suc n) (ruleOf (suc n) k r) s₀ t = line-ruled (suc n) k s₀ s t r says (h .0) (line-does m (step .promises) n s (says .words) k (h .0)) in
+      let now : Ruled (suc n) (ruleOf (suc n) k r) s₀ t = line-ruled (suc n) k s₀ s t r says (h .0) (line-does m (step .promises) n s (says .longs) k (h .0)) in
       let size : length ks ≡ stepsAt (k .verb) * suc n = line-length (suc n) k in
       let rest = lines-lead ls (p + length ks) t (ruleOf (suc n) k r) (h .1) now (stands-right l p ks (listingOf (suc n) ls) at) in
       let run = leads-through f l step ks s p (stands-left l p ks (listingOf (suc n) ls) at) (line-legal (suc n) k (h .0)) in
@@ -110,11 +110,11 @@ figures-printed (k ∷ ks) s h =
     ap₂ {C = ℕ} (λ (a b : ℕ). a + b) (sym (performs .does k s (h .0) .clocks) ∙ figure-same k s (h .0)) (figures-printed ks s (h .1))
 
 -- a state says what it says
-says-itself : (w : ℕ) (s : State) → Words (s .d) → Ruled w (saidBy w s) s s
-says-itself w s ok = record { numbers = refl; x = refl; codes = refl; addresses = refl; words = ok }
+says-itself : (w : ℕ) (s : State) → EightLongs (s .d) → Ruled w (saidBy w s) s s
+says-itself w s ok = record { numbers = refl; x = refl; codes = refl; addresses = refl; longs = ok }
 
 -- a recipe's listing in front of any steps
-came-through : (n : ℕ) (ls : List Line) (more : List Step) → Accepted (suc n) ls → (s : State) → Words (s .d)
+came-through : (n : ℕ) (ls : List Line) (more : List Step) → Accepted (suc n) ls → (s : State) → EightLongs (s .d)
     → Came performOf performs n (listingOf (suc n) ls ++ more) s 0 s (stepsOf (suc n) ls) (clocksOf (listingOf (suc n) ls)) (rulesOf (suc n) ls (saidBy (suc n) s)) (stepsOf (suc n) ls)
 came-through n ls more h s ok =
     let ks = listingOf (suc n) ls in
@@ -123,29 +123,49 @@ came-through n ls more h s ok =
     (figures-printed ks s (listing-legal (suc n) ls h))
     (record { state = came .state; leads = leads-like performOf (ks ++ more) (came .leads) _ _ refl (zero-add _); rule = came .rule })
 
-pub demand-3 : Demand3
-demand-3 zero pos ls h s ok b bs enough = absurd (omega arith)
-demand-3 (suc n) pos ls h s ok b bs enough =
+-- run in parts with enough budget, it comes to the end
+finishes : (n : ℕ) (ls : List Line) → Accepted (suc n) ls → (s : State) → EightLongs (s .d) → (b : ℕ) (bs : List ℕ) → stepsOf (suc n) ls ≤ total b bs
+    → Finishes (suc n) ls (listingOf (suc n) ls) s b bs
+finishes n ls h s ok b bs enough =
     let l = listingOf (suc n) ls in
     let steps = stepsOf (suc n) ls in
+    let more = total b bs - steps in
     let came = subst (λ (k : List Step). Came performOf performs n k s 0 s steps (clocksOf l) (rulesOf (suc n) ls (saidBy (suc n) s)) steps) (append-nil l) (came-through n ls [] h s ok) in
-    let over : runOf performOf l (came .state) steps (total b bs - steps) ≡ ends Finished (came .state) steps =
-    run-end performOf l (came .state) steps (total b bs - steps) (spot-end l steps (sym (listing-steps (suc n) ls))) in
-    let parts = leads-in-parts performOf l (came .leads) (total b bs - steps) b bs (omega arith) (subst⁻¹ (λ (r : Ran). goesOn (r .end) ≡ true) over refl) in
-    subst⁻¹ (Meets (suc n) ls s) (parts ∙ ap (after steps (clocksOf l)) over)
-    (record { end = refl; rule = came .rule; next = refl; steps = add-zero _; clocks = add-zero _ })
+    let over : runOf performOf l (came .state) steps more ≡ ends Finished (came .state) steps =
+    run-end performOf l (came .state) steps more (spot-end l steps (sym (listing-steps (suc n) ls))) in
+    let whole : runOf performOf l s 0 (total b bs) ≡ after steps (clocksOf l) (ends Finished (came .state) steps) =
+    ap (runOf performOf l s 0) (omega arith) ∙ (came .leads .runs more ∙ ap (after steps (clocksOf l)) over) in
+    let go = parts-go performOf l bs s 0 b (subst⁻¹ (λ (r : Ran). goesOn (r .end) ≡ true) whole refl) in
+    let parts = run-in-parts performOf l bs s 0 b go ∙ whole in
+    record {
+      parts = go;
+      end = ap (λ (r : Ran). r .end) parts;
+      meets = subst⁻¹ (Meets (suc n) ls s) parts (record { rule = came .rule; next = refl; steps = add-zero _; clocks = add-zero _ });
+    }
+
+pub demand-3 : Demand3
+demand-3 zero pos ls h s ok b bs enough = absurd (omega arith)
+demand-3 (suc n) pos ls h s ok b bs enough = finishes n ls h s ok b bs enough
 
 pub halted-behind : HaltedBehind
 halted-behind zero pos ls h more s ok b bs there = absurd (omega arith)
 halted-behind (suc n) pos ls h more s ok b bs there =
     let l = listingOf (suc n) ls ++ more in
     let steps = stepsOf (suc n) ls in
+    let clocks = clocksOf (listingOf (suc n) ls) in
     let came = came-through n ls more h s ok in
     let inside : steps ≤ length l = omega (arith, listing-steps (suc n) ls, length-append (listingOf (suc n) ls) more) in
     let idles = idle performOf l (came .state) steps inside in
     let parts = leads-in-parts performOf l (came .leads) 0 b bs (omega arith) (idles .goes) in
-    subst⁻¹ (λ (r : Ran). Ruled (suc n) (rulesOf (suc n) ls (saidBy (suc n) s)) s (r .state) × (goesOn (r .end) ≡ true) × (r .next ≡ steps) × (r .steps ≡ steps)) parts
-    (subst⁻¹ (Ruled (suc n) (rulesOf (suc n) ls (saidBy (suc n) s)) s) (idles .state) (came .rule), idles .goes, idles .next, ap (λ (k : ℕ). steps + k) (idles .steps) ∙ add-zero _)
+    subst⁻¹ (λ (r : Ran). (goesOn (r .end) ≡ true) × Meets (suc n) ls s r) parts (
+      idles .goes,
+      record {
+        rule = subst⁻¹ (Ruled (suc n) (rulesOf (suc n) ls (saidBy (suc n) s)) s) (idles .state) (came .rule);
+        next = idles .next;
+        steps = ap (λ (k : ℕ). steps + k) (idles .steps) ∙ add-zero _;
+        clocks = ap (λ (k : ℕ). clocks + k) (idles .clocks) ∙ add-zero _;
+      },
+    )
 
 -- ---- for the code
 
@@ -171,8 +191,14 @@ one-by-one r slots e s ok b bs enough =
     let ls = recipeLines r in
     let g = translated-good r slots e .0 in
     let is = translated-listing r slots e in
-    subst⁻¹ (λ (l : List Step). Meets w ls s (runInParts performOf l s 0 b bs)) (is .1)
+    subst⁻¹ (λ (l : List Step). Finishes w ls l s b bs) (is .1)
     (demand-3 w (width-is w (g .width) .0) ls (g .lines) s ok b bs (subst (λ (n : ℕ). n ≤ total b bs) (is .0) enough))
+
+pub from-text : FromText
+from-text text slots e room =
+    let r = readOf text .recipe in
+    let g = read-sound text e in
+    ap (λ (t : Listing). isNothing (t .refusal)) (good-translates r slots g (omega (arith, steps-few r g)))
 
 -- ---- nothing is left open
 
@@ -189,15 +215,16 @@ width-fills w e = go (eqb w 1) refl (eqb w 2) refl (eqb w 4) refl e
     go false h false i false j e = absurd (false≢true e)
 
 -- the registers that the rule's numbers give are those of the state
-pub ruled-registers : (w : ℕ) → isWidth w ≡ true → (r : Numbers) (s t : State) → Ruled w r s t → registersOf w (r .numbers) ≡ t .d
-ruled-registers w e r s t h = ap (registersOf w) (sym (h .numbers)) ∙ registers-back w (t .d) (width-fills w e) (h .words)
+pub ruled-registers : (w : ℕ) → isWidth w ≡ true → (r : Account) (s t : State) → Ruled w r s t → registersOf w (r .numbers) ≡ t .d
+ruled-registers w e r s t h = ap (registersOf w) (sym (h .numbers)) ∙ registers-back w (t .d) (width-fills w e) (h .longs)
 
--- two runs that meet the rule differ in N, Z, V and C alone, and that only where the rule doesn't tell them
-pub meets-one : (w : ℕ) → isWidth w ≡ true → (ls : List Line) (s : State) (r q : Ran) → Meets w ls s r → Meets w ls s q → r .state .flags ≡ q .state .flags → r ≡ q
-meets-one w e ls s r q h g same =
+-- two runs that meet the rule and end alike differ in N, Z, V and C alone, and that only where the rule doesn't tell them
+pub meets-one : (w : ℕ) → isWidth w ≡ true → (ls : List Line) (s : State) (r q : Ran) → Meets w ls s r → Meets w ls s q → r .end ≡ q .end
+    → r .state .flags ≡ q .state .flags → r ≡ q
+meets-one w e ls s r q h g ends same =
     let d : r .state .d ≡ q .state .d = sym (ruled-registers w e _ s (r .state) (h .rule)) ∙ ruled-registers w e _ s (q .state) (g .rule) in
     let a : r .state .a ≡ q .state .a = h .rule .addresses ∙ sym (g .rule .addresses) in λ i. record {
-      end = (h .end ∙ sym (g .end)) i;
+      end = ends i;
       state = record { d = d i; a = a i; flags = same i };
       next = (h .next ∙ sym (g .next)) i;
       steps = (h .steps ∙ sym (g .steps)) i;

@@ -18,7 +18,7 @@ use Rattle.recipes.specs.declared.types.Line.{Line}
 use Rattle.recipes.specs.Recipe.{takesTwo, target, Names}
 use Rattle.recipes.specs.Listing.{highestFirst, rising, falling, lineSteps}
 use Rattle.recipes.specs.Rule.{value, registersFrom, numbersOf, valueAfter, xAfter, codesOf}
-use Rattle.recipes.specs.Demand.{Words, Holds}
+use Rattle.recipes.specs.Demand.{EightLongs, Holds}
 use Rattle.recipes.proofs.Chain.{modulus, modulus-suc, Row, Word, Pairs, AllBelow, Kept, low, high, low-length, high-length, low-below, high-below, low-kept, high-kept, low-flags, value-below, highest, Are}
 use Rattle.recipes.proofs.Registers.{pairs, stored, sources-pairs, targets-pairs, length-pairs, bounded-pairs, rising-run, falling-run}
 use Rattle.recipes.proofs.Places.{number-fits}
@@ -42,7 +42,7 @@ pub record Does (w : ℕ) (v : Verb) (a b : ℕ) (s t : State) : Type 0 where
   pub codes : Holds (codesOf (32 * w) v (num w s a) (num w s b)) (row .flags)
 
 module _ (m : Alu) (say : Promises m) where
-  module _ (n : ℕ) (s : State) (ok : Words (s .d)) where
+  module _ (n : ℕ) (s : State) (ok : EightLongs (s .d)) where
     abbrev number : ℕ → ℕ
     number = num (suc n) s
 

@@ -1,7 +1,7 @@
 -- Document 01, "What each statement must exclude", for demands 2 and 3: each wrong version is shown not to satisfy the statement. Assumes nothing.
 --     refuses-all      one that refuses all
 --     constant-sum     one constant answer, of an operation, by sums 1 and 2; constant-run: of a recipe
---     does-nothing     one that does nothing, by `neg`
+--     does-nothing     one that does nothing, by `neg`; rests: the same of any run, by demand 3
 --     idles            a run that does its work in the first step and idles after
 --     made-up-count    a made-up step count: it is the next place less the start place
 --     carry-dropped    a carry dropped between two words: ADD where ADDX should be
@@ -69,6 +69,13 @@ does-nothing f meets stays =
 kept : getD (textRunOf (ascii "width\t1\n") (from 0 0 0 0) .d) 0 0 ≡ 0
 unfolding textRunOf readOf linesOf widthLine digitOf sameBytes before after rulesOf registersOf
 kept = refl
+
+-- and so by demand 3 itself: no run that leaves the registers meets the rule of `neg`
+pub rests : (r : Ran) → Meets 1 (record { verb = Neg; a = 0; b = 0 } ∷ []) (from 1 0 0 0) r → r .state .d ≡ from 1 0 0 0 .d → ⊥
+unfolding rulesOf
+rests r meets stays =
+    let e : _≡_ {A = ℕ} 1 0xffff_ffff = ap (λ (d : List ℕ). getD (numbersOf 1 d) 0 0) (sym stays) ∙ ap (λ (ns : List ℕ). getD ns 0 0) (meets .rule .numbers) in
+    omega arith
 
 pub constant-run : (r : RecipeRun) → ((text : List ℕ) (s : State) → r ≡ textRunOf text s) → ⊥
 constant-run r same =

@@ -17,8 +17,7 @@ use Rattle.recipes.specs.declared.types.Verb.{Verb}
 use Rattle.recipes.specs.declared.types.Verb.the-variants.{Clear, Copy, Add, Sub, Neg, Not, Halve, Down, Up}
 use Rattle.recipes.specs.declared.types.Line.{Line}
 use Rattle.recipes.specs.Recipe.{isCopy, target, Names, Accepted}
-use Rattle.recipes.specs.Listing.{one, firstStep, otherStep, withClr, highestFirst, risingRest, fallingRest, rising, falling, lineSteps, listingOf}
-use Rattle.recipes.specs.Printer.{atRest, figureOf}
+use Rattle.recipes.specs.Listing.{one, firstStep, otherStep, withClr, highestFirst, risingRest, fallingRest, rising, falling, lineSteps, listingOf, atRest, figureOf}
 use Rattle.recipes.proofs.Places.{number-fits}
 
 both-legal : (ks ls : List Step) → All Legal ks → All Legal ls → All Legal (ks ++ ls)

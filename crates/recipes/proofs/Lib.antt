@@ -20,6 +20,7 @@ mod Wide
 mod Doing
 pub mod Demand
 mod RunByRule
+pub mod Meaning
 pub mod Room
 pub mod Sums
 pub mod Excluded

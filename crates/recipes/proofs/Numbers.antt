@@ -9,8 +9,8 @@ use native.Mathlib.Omega.{arith}
 use lib.ListN.{length, getD, set, length-set}
 use lib.Seq.{sets, getD-set-same, getD-set-other, ext-getD}
 use Rattle.alu.specs.Bits.{top}
-use Rattle.recipes.specs.Rule.{word, value, registersFrom, numberAt, numbersFrom, numbersOf, wordsOf, registersOf}
-use Rattle.recipes.specs.Demand.{Words}
+use Rattle.recipes.specs.Rule.{radix, value, registersFrom, numberAt, numbersFrom, numbersOf, longsOf, registersOf}
+use Rattle.recipes.specs.Demand.{EightLongs}
 use Rattle.recipes.proofs.Chain.{modulus, AllBelow, targets, value-below, highest, highest-top}
 use Rattle.recipes.proofs.Places.{number-fits}
 use Rattle.recipes.proofs.Registers.{pairs-set, targets-pairs, Outside, Free, getD-sets-below}
@@ -52,14 +52,14 @@ length-from : (n p : ℕ) (d : List ℕ) → length (registersFrom n p d) ≡ n
 length-from zero p d = refl
 length-from (suc n) p d = ap suc (length-from n (suc p) d)
 
-from-below : (n p : ℕ) (d : List ℕ) → Words d → AllBelow (registersFrom n p d)
+from-below : (n p : ℕ) (d : List ℕ) → EightLongs d → AllBelow (registersFrom n p d)
 from-below zero p d h = tt
 from-below (suc n) p d h = (h .each p, from-below n (suc p) d h)
 
-pub number-below : (w : ℕ) (d : List ℕ) (k : ℕ) → Words d → numberAt w d k < modulus w
+pub number-below : (w : ℕ) (d : List ℕ) (k : ℕ) → EightLongs d → numberAt w d k < modulus w
 number-below w d k h = rw (length-from w (k * w) d) at (value-below (registersFrom w (k * w) d) (from-below w (k * w) d h))
 
-pub highest-number : (n : ℕ) (d : List ℕ) (k : ℕ) → Words d → k < 8 / suc n
+pub highest-number : (n : ℕ) (d : List ℕ) (k : ℕ) → EightLongs d → k < 8 / suc n
     → top 32 (highest (getD d (k * suc n) 0) (registersFrom n (suc (k * suc n)) d)) ≡ top (32 * suc n) (getD (numbersOf (suc n) d) k 0)
 highest-number n d k h l =
     highest-top (getD d (k * suc n) 0) (registersFrom n (suc (k * suc n)) d) (from-below (suc n) (k * suc n) d h)
@@ -112,27 +112,27 @@ numbers-stored w d vs b eight size h =
 
 -- ---- the registers stay eight words
 
-set-below : (d : List ℕ) (i v : ℕ) → ((k : ℕ) → getD d k 0 < word) → v < word → (k : ℕ) → getD (set d i v) k 0 < word
+set-below : (d : List ℕ) (i v : ℕ) → ((k : ℕ) → getD d k 0 < radix) → v < radix → (k : ℕ) → getD (set d i v) k 0 < radix
 set-below [] i v h l k = h k
 set-below (x ∷ xs) zero v h l zero = l
 set-below (x ∷ xs) zero v h l (suc k) = h (suc k)
 set-below (x ∷ xs) (suc i) v h l zero = h zero
 set-below (x ∷ xs) (suc i) v h l (suc k) = set-below xs i v (λ j. h (suc j)) l k
 
-pub words-kept : (q : ℕ) (d vs : List ℕ) → Words d → AllBelow vs → Words (sets d q vs)
-words-kept q d [] h b = h
-words-kept q d (v ∷ vs) h b =
-    words-kept (suc q) (set d q v) vs
+pub longs-kept : (q : ℕ) (d vs : List ℕ) → EightLongs d → AllBelow vs → EightLongs (sets d q vs)
+longs-kept q d [] h b = h
+longs-kept q d (v ∷ vs) h b =
+    longs-kept (suc q) (set d q v) vs
     (record { count = length-set d q v ∙ h .count; each = set-below d q v (h .each) (b .0) }) (b .1)
 
 -- ---- the numbers say it all
 
 -- the words of the number that words make
-words-back : (ds : List ℕ) → AllBelow ds → wordsOf (length ds) (value ds) ≡ ds
-words-back [] h = refl
-words-back (d ∷ ds) h =
-    let rest : (d + word * value ds) / word ≡ value ds = omega (arith, h .0) in
-    ap₂ {C = List ℕ} (λ (a : ℕ) (l : List ℕ). a ∷ l) (omega (arith, h .0)) (ap (wordsOf (length ds)) rest ∙ words-back ds (h .1))
+longs-back : (ds : List ℕ) → AllBelow ds → longsOf (length ds) (value ds) ≡ ds
+longs-back [] h = refl
+longs-back (d ∷ ds) h =
+    let rest : (d + radix * value ds) / radix ≡ value ds = omega (arith, h .0) in
+    ap₂ {C = List ℕ} (λ (a : ℕ) (l : List ℕ). a ∷ l) (omega (arith, h .0)) (ap (longsOf (length ds)) rest ∙ longs-back ds (h .1))
 
 from-append : (n m p : ℕ) (d : List ℕ) → registersFrom (n + m) p d ≡ registersFrom n p d ++ registersFrom m (p + n) d
 from-append zero m p d = ap₂ {C = List ℕ} (λ (n q : ℕ). registersFrom n q d) (zero-add m) (sym (add-zero p))
@@ -140,14 +140,14 @@ from-append (suc n) m p d =
     ap (λ (k : ℕ). registersFrom k p d) (suc-add n m)
     ∙ ap (λ (l : List ℕ). getD d p 0 ∷ l) (from-append n m (suc p) d ∙ ap (λ (q : ℕ). registersFrom n (suc p) d ++ registersFrom m q d) (omega arith))
 
-numbers-back : (w : ℕ) (d : List ℕ) (n k : ℕ) → Words d → registersOf w (numbersFrom w d n k) ≡ registersFrom (n * w) (k * w) d
+numbers-back : (w : ℕ) (d : List ℕ) (n k : ℕ) → EightLongs d → registersOf w (numbersFrom w d n k) ≡ registersFrom (n * w) (k * w) d
 unfolding registersOf
 numbers-back w d zero k h = ap (λ (m : ℕ). registersFrom m (k * w) d) (sym (zero-mul w))
 numbers-back w d (suc n) k h =
     let next : suc k * w ≡ k * w + w = omega arith in
     let size : w + n * w ≡ suc n * w = omega arith in
-    let row : wordsOf w (numberAt w d k) ≡ registersFrom w (k * w) d =
-    rw (length-from w (k * w) d) at (words-back (registersFrom w (k * w) d) (from-below w (k * w) d h)) in
+    let row : longsOf w (numberAt w d k) ≡ registersFrom w (k * w) d =
+    rw (length-from w (k * w) d) at (longs-back (registersFrom w (k * w) d) (from-below w (k * w) d h)) in
     ap₂ {C = List ℕ} (λ (a b : List ℕ). a ++ b) row (numbers-back w d n (suc k) h ∙ ap (λ (q : ℕ). registersFrom (n * w) q d) next)
     ∙ (sym (from-append w (n * w) (k * w) d) ∙ ap (λ (m : ℕ). registersFrom m (k * w) d) size)
 
@@ -157,12 +157,12 @@ getD-from (suc n) p zero d h = ap (λ (k : ℕ). getD d k 0) (sym (add-zero p))
 getD-from (suc n) p (suc j) d h = getD-from n (suc p) j d (omega arith) ∙ ap (λ (k : ℕ). getD d k 0) (omega arith)
 
 -- at a width that fills the eight registers, the registers that hold the numbers of d are d: no register is left open
-pub registers-back : (w : ℕ) (d : List ℕ) → 8 / w * w ≡ 8 → Words d → registersOf w (numbersOf w d) ≡ d
+pub registers-back : (w : ℕ) (d : List ℕ) → 8 / w * w ≡ 8 → EightLongs d → registersOf w (numbersOf w d) ≡ d
 registers-back w d full h =
     numbers-back w d (8 / w) 0 h
     ∙ (ap₂ {C = List ℕ} (λ (n p : ℕ). registersFrom n p d) full (zero-mul w)
     ∙ ext-getD 0 (registersFrom 8 0 d) d (sym (h .count)) (λ i t. getD-from 8 0 i d t ∙ ap (λ (j : ℕ). getD d j 0) (zero-add i)))
 
 -- so equal numbers are equal registers
-pub numbers-determine : (w : ℕ) (d e : List ℕ) → 8 / w * w ≡ 8 → Words d → Words e → numbersOf w d ≡ numbersOf w e → d ≡ e
+pub numbers-determine : (w : ℕ) (d e : List ℕ) → 8 / w * w ≡ 8 → EightLongs d → EightLongs e → numbersOf w d ≡ numbersOf w e → d ≡ e
 numbers-determine w d e full hd he same = sym (registers-back w d full hd) ∙ (ap (registersOf w) same ∙ registers-back w e full he)

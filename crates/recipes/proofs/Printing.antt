@@ -14,7 +14,8 @@ use Rattle.alu.specs.declared.types.Size.the-variants.{Byte}
 use Rattle.step.specs.declared.steps.TwoOp.the-variants.{Add}
 use Rattle.step.specs.declared.steps.Form.the-variants.{Two}
 use Rattle.step.specs.declared.steps.Step.{Step}
-use Rattle.recipes.specs.Printer.{stepText, stepsText, figureOf, clocksOf}
+use Rattle.recipes.specs.Listing.{figureOf, clocksOf}
+use Rattle.recipes.specs.Printer.{stepText, stepsText}
 
 -- what a loop's place past the end of its array would hold
 abbrev pub nop : Step

@@ -13,7 +13,7 @@ use Rattle.step.proofs.Promises.{Left, Alu, register, put, applied}
 use Rattle.step.proofs.Leading.{executed}
 use Rattle.recipes.specs.declared.types.Verb.{Verb}
 use Rattle.recipes.specs.Listing.{firstStep, otherStep, withClr, risingRest, rising, fallingRest, falling}
-use Rattle.recipes.specs.Rule.{word, registersFrom}
+use Rattle.recipes.specs.Rule.{radix, registersFrom}
 use Rattle.recipes.proofs.Chain.{Row, Word, Pairs, Bounded, low, high, sources, targets, highest}
 
 -- ---- the words that a line reads
@@ -34,7 +34,7 @@ pub length-pairs : (n p q : ℕ) (d : List ℕ) → length (pairs n p q d) ≡ n
 length-pairs zero p q d = refl
 length-pairs (suc n) p q d = ap suc (length-pairs n (suc p) (suc q) d)
 
-pub bounded-pairs : (n p q : ℕ) (d : List ℕ) → ((i : ℕ) → getD d i 0 < word) → Bounded (pairs n p q d)
+pub bounded-pairs : (n p q : ℕ) (d : List ℕ) → ((i : ℕ) → getD d i 0 < radix) → Bounded (pairs n p q d)
 bounded-pairs zero p q d h = tt
 bounded-pairs (suc n) p q d h = (h p, h q, bounded-pairs n (suc p) (suc q) d h)
 
@@ -107,7 +107,7 @@ module _ (m : Alu) where
   module _ (v : Verb) (g : Word) (start : ℕ → Flags → Flags) (Ok : ℕ → ℕ → Type 0) (up : (p q : ℕ) → Ok p q → Ok (suc p) (suc q))
       (next : (p q : ℕ) (s : State) → Ok p q → q < length (s .d)
       → executed m (otherAt v p q) s ≡ put s q (g (register s p) (register s q) (s .flags)))
-      (first : (p q : ℕ) (s : State) → Ok p q → q < length (s .d) → ((i : ℕ) → register s i < word)
+      (first : (p q : ℕ) (s : State) → Ok p q → q < length (s .d) → ((i : ℕ) → register s i < radix)
       → executed m (firstAt v p q) s ≡ put s q (g (register s p) (register s q) (start (register s q) (s .flags))))
     where
       each-run : (n p q : ℕ) (s : State) → Ok p q → Free n p q → q + n ≤ length (s .d)
@@ -125,7 +125,7 @@ module _ (m : Alu) where
           (λ k a b e. free 0 (k - p) (omega arith) (omega arith) (omega arith)) (λ k a b e. omega arith))
 
       -- the first step is the chain's own, from other flags
-      pub rising-run : (n p q : ℕ) (s : State) → ((i : ℕ) → register s i < word) → Ok p q → Free (suc n) p q → q + suc n ≤ length (s .d)
+      pub rising-run : (n p q : ℕ) (s : State) → ((i : ℕ) → register s i < radix) → Ok p q → Free (suc n) p q → q + suc n ≤ length (s .d)
           → executed m (rising v (suc n) p q) s ≡ stored s q (low g (pairs (suc n) p q (s .d)) (start (register s q) (s .flags)))
       unfolding risingRest
       rising-run n p q s small ok free fits =
@@ -135,7 +135,7 @@ module _ (m : Alu) where
           ∙ sym (executed-append (otherAt v p q) (risingRest v n (suc p) (suc q)) t)
           ∙ each-run (suc n) p q t ok free fits
 
-      pub falling-run : (n q : ℕ) (s : State) → ((i : ℕ) → register s i < word) → Ok q q → q + suc n ≤ length (s .d)
+      pub falling-run : (n q : ℕ) (s : State) → ((i : ℕ) → register s i < radix) → Ok q q → q + suc n ≤ length (s .d)
           → executed m (falling v (suc n) q q) s
           ≡ stored s q (high g (pairs (suc n) q q (s .d)) (start (highest (register s q) (registersFrom n (suc q) (s .d))) (s .flags)))
       unfolding fallingRest

@@ -36,8 +36,8 @@ use Rattle.recipes.specs.declared.types.Refusal.{Refusal}
 use Rattle.recipes.specs.Text.{Written, written, writing, decimalIn, decimalOf}
 use Rattle.recipes.specs.Recipe.{numberOf, isNothing}
 use Rattle.recipes.specs.Reader.{readOf}
-use Rattle.recipes.specs.Listing.{translateOf, blanks}
-use Rattle.recipes.specs.Printer.{twoName, addressName, quickName, oneName, shiftName, bitName, operationText, sizeText, registerText, countText, sourceText, destinationText, stepText, stepsText, clocksOf, listingText, refusalText, printedOf, answerOf}
+use Rattle.recipes.specs.Listing.{translateOf, blanks, clocksOf}
+use Rattle.recipes.specs.Printer.{twoName, addressName, quickName, oneName, shiftName, bitName, operationText, sizeText, registerText, countText, sourceText, destinationText, stepText, stepsText, listingText, refusalText, printedOf, answerOf}
 use Rattle.recipes.proofs.Settling.{blanks-count}
 
 -- ---- parts of a line

@@ -30,8 +30,8 @@ use Rattle.recipes.specs.declared.types.RecipeRun.{RecipeRun}
 use Rattle.recipes.specs.Recipe.{isNothing, unused, recipeLines}
 use Rattle.recipes.specs.Reader.{readOf}
 use Rattle.recipes.specs.Listing.{listingOf, stepsOf, over, listed, translateOf, blanks}
-use Rattle.recipes.specs.Rule.{codesOf, Numbers, saidBy, ruleOf, rulesOf}
-use Rattle.recipes.specs.Demand.{Words, Holds, Meets, ranByRule, untouched, recipeRunOf, textRunOf}
+use Rattle.recipes.specs.Rule.{codesOf, Account, saidBy, ruleOf, rulesOf}
+use Rattle.recipes.specs.Demand.{EightLongs, Holds, Meets, ranByRule, untouched, recipeRunOf, textRunOf}
 use Rattle.recipes.specs.Making.{toldAfter, codesAfter}
 use Rattle.recipes.proofs.Accepting.{Good, width-is, tests-agree}
 use Rattle.recipes.proofs.Settling.{whole-fits, blanks-fit, blanks-count}
@@ -39,8 +39,8 @@ use Rattle.recipes.proofs.Agreeing.{read-sound, good-passes, good-trans
 use Rattle.recipes.proofs.Demand.{one-by-one, ruled-registers}
 
 -- what owning a register set tells of its data registers
-pub words-owned : (d : List ℕ) (us : List Val) → shadow (each ℕ (UInt w32 .own) (map (λ (v : ℕ). v) d) us) → length (map (λ (v : ℕ). v) d) ≡ 8 → Words d
-words-owned d us p e = record { count = length-unmapped ℕ d 8 e; each = λ i. elem-fits-field w32 w32 d us i p tt .fits }
+pub longs-owned : (d : List ℕ) (us : List Val) → shadow (each ℕ (UInt w32 .own) (map (λ (v : ℕ). v) d) us) → length (map (λ (v : ℕ). v) d) ≡ 8 → EightLongs d
+longs-owned d us p e = record { count = length-unmapped ℕ d 8 e; each = λ i. elem-fits-field w32 w32 d us i p tt .fits }
 
 -- ---- what is told of the flags
 
@@ -72,7 +72,7 @@ line-told Halve n s d f h = refl
 line-told Down n s d f h = refl
 line-told Up n s d f h = refl
 
-lines-told : (w : ℕ) (l : Line) (ls : List Line) (r : Numbers) (f : Flags) → Holds (rulesOf w (l ∷ ls) r .codes) f → codesAfter (l ∷ ls) f ≡ rulesOf w (l ∷ ls) r .codes
+lines-told : (w : ℕ) (l : Line) (ls : List Line) (r : Account) (f : Flags) → Holds (rulesOf w (l ∷ ls) r .codes) f → codesAfter (l ∷ ls) f ≡ rulesOf w (l ∷ ls) r .codes
 unfolding rulesOf
 lines-told w l [] r f h = line-told (l .verb) _ _ _ f h
 lines-told w l (m ∷ ls) r f h = lines-told w m ls (ruleOf w l r) f h
@@ -123,7 +123,7 @@ ruled-by r s t k slots g h =
     ∙ sym (good-passes (untouched s) r (ranByRule w ls s) g)
 
 -- the listing that was made of a good recipe meets it, run whole
-pub run-ruled : (r : Recipe) (s : State) (made : Listing) (t : Ran) (codes : Codes) → made ≡ translateOf r blanks → isNothing (made .refusal) ≡ true → Words (s .d)
+pub run-ruled : (r : Recipe) (s : State) (made : Listing) (t : Ran) (codes : Codes) → made ≡ translateOf r blanks → isNothing (made .refusal) ≡ true → EightLongs (s .d)
     → t ≡ runOf performOf (take (made .count) (made .steps)) s 0 256 → codes ≡ codesAfter (recipeLines r) (t .state .flags) → answered made t codes ≡ recipeRunOf r s
 run-ruled r s made t codes is e ok ran told =
     let g = made-good r made is e in
@@ -132,7 +132,7 @@ run-ruled r s made t codes is e ok ran told =
     let meets : Meets (r .width) (recipeLines r) s t =
     subst⁻¹ (Meets (r .width) (recipeLines r) s) ran
     (subst⁻¹ (λ (l : Listing). isNothing (l .refusal) ≡ true → l .count ≤ 256 → Meets (r .width) (recipeLines r) s (runOf performOf (take (l .count) (l .steps)) s 0 256)) is
-    (λ e few. one-by-one r blanks e s ok 256 [] few) e few) in
+    (λ e few. one-by-one r blanks e s ok 256 [] few .meets) e few) in
     ap₂ {C = RecipeRun} (λ (l : Listing) (c : Codes). answered l t c) (is ∙ good-translates r blanks g fits) told
     ∙ ruled-by r s t (stepsOf (r .width) (recipeLines r)) (over (listingOf (r .width) (recipeLines r)) blanks) g meets
 

@@ -2,10 +2,11 @@
 --     line-length     a line has w steps, a copy 2w
 --     listing-steps   so a listing has `stepsOf`
 --     steps-most      at most 8 a line, so that 32 lines have at most 256
+--     listing-append  the listing of lines and more lines is the one and then the other
 use Prim.Native.Nat.{ℕ, zero, suc, _+_, _*_, _≤_, _<_}
 use mathlib.Core.Bool.{Bool, true, false, cond}
-use mathlib.Core.List.{List, [], _∷_}
-use mathlib.Core.Path.{_≡_, refl}
+use mathlib.Core.List.{List, [], _∷_, _++_, append-assoc}
+use mathlib.Core.Path.{_≡_, refl, sym, ap, _∙_}
 use native.Mathlib.Omega.{arith}
 use lib.ListN.{length, take, getD, length-append}
 use lib.Seq.{take-append-add}
@@ -72,6 +73,12 @@ steps-most w (l ∷ ls) h = more (stepsAt (l .verb)) (steps-at-most (l .verb) .1
     more (suc zero) e i = omega arith
     more (suc (suc zero)) e i = omega arith
     more (suc (suc (suc k))) e i = absurd (omega arith)
+
+-- the listing of some lines and then of more
+pub listing-append : (w : ℕ) (ls ms : List Line) → listingOf w (ls ++ ms) ≡ listingOf w ls ++ listingOf w ms
+unfolding listingOf
+listing-append w [] ms = refl
+listing-append w (l ∷ ls) ms = ap (λ (ks : List Step). lineSteps w l ++ ks) (listing-append w ls ms) ∙ sym (append-assoc (lineSteps w l) (listingOf w ls) (listingOf w ms))
 
 -- the listing of the first lines is the first part of the listing
 pub listing-prefix : (w n : ℕ) (ls : List Line) → take (stepsOf w (take n ls)) (listingOf w ls) ≡ listingOf w (take n ls)

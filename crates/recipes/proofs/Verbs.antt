@@ -18,7 +18,7 @@ use Rattle.step.proofs.Leading.{executed}
 use Rattle.recipes.specs.declared.types.Verb.{Verb}
 use Rattle.recipes.specs.declared.types.Verb.the-variants.{Clear, Copy, Add, Sub, Neg, Not, Halve, Down, Up}
 use Rattle.recipes.specs.Listing.{two, one, highestFirst}
-use Rattle.recipes.specs.Rule.{word}
+use Rattle.recipes.specs.Rule.{radix}
 use Rattle.recipes.proofs.Chain.{Word, Balance, Kept}
 use Rattle.recipes.proofs.Registers.{firstAt, otherAt}
 
@@ -82,21 +82,21 @@ module _ (m : Alu) where
 
 module _ (m : Alu) (say : Promises m) where
   -- copy: the source, and X clear
-  copied-sum : (s d : ℕ) (f : Flags) → s < word → s ≡ wordOf m Copy s d f .result + word * digit (wordOf m Copy s d f .flags .x)
+  copied-sum : (s d : ℕ) (f : Flags) → s < radix → s ≡ wordOf m Copy s d f .result + radix * digit (wordOf m Copy s d f .flags .x)
   copied-sum s d f h =
       let e : wordOf m Copy s d f ≡ m .two TwoOp.Addx s 0 (fresh (m .one OneOp.Clr d f .flags)) =
       ap (λ (z : ℕ). m .two TwoOp.Add s z (m .one OneOp.Clr d f .flags)) (say .clr d f) ∙ say .add s 0 (m .one OneOp.Clr d f .flags) in
-      subst⁻¹ (λ (r : Left). s ≡ r .result + word * digit (r .flags .x)) e
+      subst⁻¹ (λ (r : Left). s ≡ r .result + radix * digit (r .flags .x)) e
       (omega (arith, say .addx-sum s 0 (fresh (m .one OneOp.Clr d f .flags)) h (omega arith)))
 
-  pub copied-x : (s d : ℕ) (f : Flags) → s < word → wordOf m Copy s d f .flags .x ≡ false
+  pub copied-x : (s d : ℕ) (f : Flags) → s < radix → wordOf m Copy s d f .flags .x ≡ false
   copied-x s d f h = go (wordOf m Copy s d f .flags .x) refl
     where
       go : (b : Bool) → wordOf m Copy s d f .flags .x ≡ b → wordOf m Copy s d f .flags .x ≡ false
       go true e = absurd (omega (arith, copied-sum s d f h, ap digit e))
       go false e = e
 
-  copied : (s d : ℕ) (f : Flags) → s < word → wordOf m Copy s d f .result ≡ s
+  copied : (s d : ℕ) (f : Flags) → s < radix → wordOf m Copy s d f .result ≡ s
   copied s d f h = omega (arith, copied-sum s d f h, ap digit (copied-x s d f h))
 
   copy-does : (p q : ℕ) (s : State) → (p ≡ q → ⊥) → q < length (s .d)
@@ -121,7 +121,7 @@ module _ (m : Alu) (say : Promises m) where
   next-does Down p q s ok h = refl
   next-does Up p q s ok h = refl
 
-  pub first-does : (v : Verb) (p q : ℕ) (s : State) → Ok v p q → q < length (s .d) → ((i : ℕ) → register s i < word)
+  pub first-does : (v : Verb) (p q : ℕ) (s : State) → Ok v p q → q < length (s .d) → ((i : ℕ) → register s i < radix)
       → executed m (firstAt v p q) s ≡ put s q (wordOf m v (register s p) (register s q) (startOf v (register s q) (s .flags)))
   first-does Clear p q s ok h w = refl
   first-does Copy p q s ok h w = copy-does p q s (ok refl) h
@@ -133,7 +133,7 @@ module _ (m : Alu) (say : Promises m) where
   first-does Down p q s ok h w = ap (put s q) (say .lsr _ _)
   first-does Up p q s ok h w = ap (put s q) (say .lsl _ _)
 
-  pub word-below : (v : Verb) (s d : ℕ) (f : Flags) → s < word → d < word → wordOf m v s d f .result < word
+  pub word-below : (v : Verb) (s d : ℕ) (f : Flags) → s < radix → d < radix → wordOf m v s d f .result < radix
   word-below Clear s d f hs hd = omega (arith, say .clr d f)
   word-below Copy s d f hs hd = omega (arith, copied s d f hs)
   word-below Add s d f hs hd = say .addx s d f .below
@@ -145,8 +145,8 @@ module _ (m : Alu) (say : Promises m) where
   word-below Up s d f hs hd = say .roxl d f
 
   -- and it keeps the balance: lowest first from the flags before to those after, highest first the other way round
-  pub rise-kept : (v : Verb) → highestFirst v ≡ false → (s d : ℕ) (f : Flags) → s < word → d < word
-      → Kept (balanceOf v) word (carryOf v f) s d (wordOf m v s d f .result) (carryOf v (wordOf m v s d f .flags))
+  pub rise-kept : (v : Verb) → highestFirst v ≡ false → (s d : ℕ) (f : Flags) → s < radix → d < radix
+      → Kept (balanceOf v) radix (carryOf v f) s d (wordOf m v s d f .result) (carryOf v (wordOf m v s d f .flags))
   rise-kept Clear e s d f hs hd = omega (arith, say .clr d f)
   rise-kept Copy e s d f hs hd = omega (arith, copied s d f hs)
   rise-kept Add e s d f hs hd = omega (arith, say .addx-sum s d f hs hd)
@@ -157,6 +157,6 @@ module _ (m : Alu) (say : Promises m) where
   rise-kept Down e s d f hs hd = absurd (true≢false e)
   rise-kept Up e s d f hs hd = omega (arith, say .roxl-sum d f hd)
 
-  pub fall-kept : (s d : ℕ) (f : Flags) → s < word → d < word
-      → Kept (balanceOf Down) word (digit (m .shift Roxr d f .flags .x)) s d (m .shift Roxr d f .result) (digit (f .x))
+  pub fall-kept : (s d : ℕ) (f : Flags) → s < radix → d < radix
+      → Kept (balanceOf Down) radix (digit (m .shift Roxr d f .flags .x)) s d (m .shift Roxr d f .result) (digit (f .x))
   fall-kept s d f hs hd = omega (arith, say .roxr-sum d f hd)

@@ -1,6 +1,7 @@
--- Demand 3: any accepted recipe, run whole or halted after any step and continued, ends with each number and X exactly as document 01's rule says, address
--- registers untouched, steps by document 01's formula. The statements are proved in proofs/Demand. Assumes nothing.
-use Prim.Native.Nat.{ℕ, _+_, _≤_, _<_}
+-- Demand 3: any accepted recipe, run whole or halted after any step and continued, ends with each number and X exactly as document 01's rule says, after
+-- add, sub and neg with the flags of the whole number, address registers untouched, steps by document 01's formula. First what is promised of runs of the
+-- listing (proved in proofs/Demand: `demand-3`, `halted-behind`, `one-by-one`, `from-text`), then what `run_recipe` and `run_text` answer. Assumes nothing.
+use Prim.Native.Nat.{ℕ, _≤_, _<_}
 use mathlib.Core.Path.{_≡_}
 use mathlib.Core.Bool.{true, cond}
 use mathlib.Core.List.{List, _++_}
@@ -11,7 +12,7 @@ use Rattle.step.specs.declared.steps.Step.{Step}
 use Rattle.step.specs.declared.runs.End.the-variants.{Finished}
 use Rattle.step.specs.declared.runs.Ran.{Ran}
 use Rattle.step.specs.Perform.{performOf}
-use Rattle.step.specs.Parts.{goesOn, runInParts, total}
+use Rattle.step.specs.Parts.{goesOn, runInParts, PartsGo, total}
 use Rattle.recipes.specs.declared.types.Line.{Line}
 use Rattle.recipes.specs.declared.types.Recipe.{Recipe}
 use Rattle.recipes.specs.declared.types.Refusal.{Refusal}
@@ -20,68 +21,78 @@ use Rattle.recipes.specs.declared.types.Codes.{Codes}
 use Rattle.recipes.specs.declared.types.Codes.the-variants.{Open, Known}
 use Rattle.recipes.specs.declared.types.RecipeRun.{RecipeRun}
 use Rattle.recipes.specs.Recipe.{isNothing, recipeLines, Accepted}
+use Rattle.recipes.specs.Rule.{radix, numbersOf, registersOf, Account, saidBy, rulesOf}
 use Rattle.recipes.specs.Reader.{readOf}
-use Rattle.recipes.specs.Listing.{listingOf, stepsOf, tested, translateOf}
-use Rattle.recipes.specs.Printer.{clocksOf}
-use Rattle.recipes.specs.Rule.{word, numbersOf, registersOf, Numbers, saidBy, rulesOf}
+use Rattle.recipes.specs.Listing.{listingOf, stepsOf, clocksOf, tested, translateOf}
 
 -- ---- what a state may say
 
 -- eight registers of 32 bits: every state of the code has them
-pub record Words (d : List ℕ) : Type 0 where
+pub record EightLongs (d : List ℕ) : Type 0 where
   pub count : length d ≡ 8
-  pub each : (i : ℕ) → getD d i 0 < word
+  pub each : (i : ℕ) → getD d i 0 < radix
 
--- flags are as told; where nothing is told they may be any
+-- all five flags are as told; where nothing is told this asks nothing of them (X is held by itself, in `Ruled`)
 abbrev pub Holds : Codes → Flags → Type 0
 Holds Open f = Unit {0}
 Holds (Known g) f = f ≡ g
 
--- from s, a state t came to say r: the numbers, X and the flags. No address register has changed, and the data registers still are eight of 32 bits
-pub record Ruled (w : ℕ) (r : Numbers) (s t : State) : Type 0 where
+-- from s, a state t came to say r: all numbers in one equation, X, and the flags. No address register has changed, and the data registers still are eight
+-- of 32 bits
+pub record Ruled (w : ℕ) (r : Account) (s t : State) : Type 0 where
   pub numbers : numbersOf w (t .d) ≡ r .numbers
   pub x : t .flags .x ≡ r .x
   pub codes : Holds (r .codes) (t .flags)
   pub addresses : t .a ≡ s .a
-  pub words : Words (t .d)
+  pub longs : EightLongs (t .d)
 
--- ---- demand 3
-
--- a run of the listing from its first place came to its end, by the rule
+-- a run from the first place has done the lines' steps, and nothing else: the state is by the rule, the next place is behind them
 pub record Meets (w : ℕ) (ls : List Line) (s : State) (r : Ran) : Type 0 where
-  pub end : r .end ≡ Finished
   pub rule : Ruled w (rulesOf w ls (saidBy w s)) s (r .state)
   pub next : r .next ≡ stepsOf w ls
   pub steps : r .steps ≡ stepsOf w ls
   pub clocks : r .clocks ≡ clocksOf (listingOf w ls)
 
--- With a budget b, and then with each of the budgets bs, from the registers, flags and place that the run before it left: bs may be empty, and any of
--- them 0. Widths 1, 2 and 4 are instances. Budgets of the code have 32 bits, each; this speaks of them, and of any greater. An accepted recipe of at
--- most 32 lines has at most 256 steps (`steps-few` of proofs/Demand), so that a single budget of 256 is enough for every one.
+-- ---- demand 3
+
+-- a listing is run in parts from its first place, none trapped or refused, to its end, and meets the rule: with a budget b, and then with each of the
+-- budgets bs, from the registers, flags and place that the part before left. bs may be empty, and any budget 0
+pub record Finishes (w : ℕ) (ls : List Line) (l : List Step) (s : State) (b : ℕ) (bs : List ℕ) : Type 0 where
+  pub parts : PartsGo performOf l s 0 b bs
+  pub end : runInParts performOf l s 0 b bs .end ≡ Finished
+  pub meets : Meets w ls s (runInParts performOf l s 0 b bs)
+
+-- Widths 1, 2 and 4 are instances. Each budget of the code has 32 bits; this speaks of every such budget, and of any greater. An accepted recipe of at most
+-- 32 lines has at most 256 steps (`steps-few` of proofs/Demand), so that a single budget of 256 is enough for every one.
 abbrev pub Demand3 : Type 0
 Demand3 =
-    (w : ℕ) → 0 < w → (ls : List Line) → Accepted w ls → (s : State) → Words (s .d) → (b : ℕ) (bs : List ℕ) → stepsOf w ls ≤ total b bs
-    → Meets w ls s (runInParts performOf (listingOf w ls) s 0 b bs)
+    (w : ℕ) → 0 < w → (ls : List Line) → Accepted w ls → (s : State) → EightLongs (s .d) → (b : ℕ) (bs : List ℕ) → stepsOf w ls ≤ total b bs
+    → Finishes w ls (listingOf w ls) s b bs
 
--- Halted just behind a recipe's steps, whatever steps stand there behind them: those of more lines, or slots that a listing doesn't use. So the rule
--- holds at each line of a longer recipe, and the flags after each add, sub and neg are those of the whole number.
+-- Halted just behind a recipe's steps, whatever stands there behind them: the steps of more lines (`listing-append` of proofs/Steps), or slots that a
+-- listing doesn't use. So the rule holds at each line of a longer recipe, and the flags after each add, sub and neg are those of the whole number. (Halted
+-- inside a line a run has the state that its last step made: `run-halted` of step/proofs/Laws.)
 abbrev pub HaltedBehind : Type 0
 HaltedBehind =
-    (w : ℕ) → 0 < w → (ls : List Line) → Accepted w ls → (more : List Step) → (s : State) → Words (s .d) → (b : ℕ) (bs : List ℕ)
+    (w : ℕ) → 0 < w → (ls : List Line) → Accepted w ls → (more : List Step) → (s : State) → EightLongs (s .d) → (b : ℕ) (bs : List ℕ)
     → total b bs ≡ stepsOf w ls
-    → let r = runInParts performOf (listingOf w ls ++ more) s 0 b bs in
-    Ruled w (rulesOf w ls (saidBy w s)) s (r .state) × (goesOn (r .end) ≡ true) × (r .next ≡ stepsOf w ls) × (r .steps ≡ stepsOf w ls)
+    → let r = runInParts performOf (listingOf w ls ++ more) s 0 b bs in (goesOn (r .end) ≡ true) × Meets w ls s r
 
--- Called one by one: what `translate` or `translate_array` made of a recipe that it accepted, run by `run` or `run_array`
+-- Called one by one: what `translate` or `translate_array` made of a recipe that it accepted, run by `run` or `run_array` in its first `count` slots. (`run`
+-- takes all slots that it is lent. Who lends it the slots past the listing too has `HaltedBehind`, for budgets that end with the listing.)
 abbrev pub CalledOneByOne : Type 0
 CalledOneByOne =
     (r : Recipe) (slots : List Step) → let t = translateOf r slots in
-    isNothing (t .refusal) ≡ true → (s : State) → Words (s .d) → (b : ℕ) (bs : List ℕ) → t .count ≤ total b bs
-    → Meets (r .width) (recipeLines r) s (runInParts performOf (take (t .count) (t .steps)) s 0 b bs)
+    isNothing (t .refusal) ≡ true → (s : State) → EightLongs (s .d) → (b : ℕ) (bs : List ℕ) → t .count ≤ total b bs
+    → Finishes (r .width) (recipeLines r) (take (t .count) (t .steps)) s b bs
 
--- ---- a recipe that is run by one call
+-- and a text that is read is accepted by the translator, wherever it has 256 slots
+abbrev pub FromText : Type 0
+FromText = (text : List ℕ) (slots : List Step) → isNothing (readOf text .refusal) ≡ true → 256 ≤ length slots → isNothing (translateOf (readOf text .recipe) slots .refusal) ≡ true
 
--- what the rule makes of a state; its numbers determine the registers
+-- ---- what `run_recipe` and `run_text` answer
+
+-- what the rule makes of a state: at the widths 1, 2 and 4 the numbers determine the registers (`ruled-registers` of proofs/Demand)
 abbrev pub ranByRule : (w : ℕ) → List Line → State → RecipeRun
 ranByRule w ls s =
     let r = rulesOf w ls (saidBy w s) in
@@ -101,11 +112,11 @@ abbrev pub untouched : State → Refusal → (line : ℕ) → RecipeRun
 untouched s k line =
     record { refusal = k; line = line; d = s .d; a = s .a; x = s .flags .x; codes = Known (s .flags); steps = 0; clocks = 0 }
 
--- a recipe, by the translator's tests
+-- a recipe: by the translator's tests, of which 9 is never met, since there are 256 slots
 unfoldable pub recipeRunOf : Recipe → State → RecipeRun
 recipeRunOf r s = tested (untouched s) r (ranByRule (r .width) (recipeLines r) s)
 
--- a text, by the reader's
+-- a text of any length: by the reader's. (The 1,024 bytes are the program's)
 unfoldable pub textRunOf : List ℕ → State → RecipeRun
 textRunOf text s =
     let g = readOf text in

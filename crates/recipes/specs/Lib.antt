@@ -1,9 +1,9 @@
 pub mod Text
 pub mod Recipe
+pub mod Rule
 pub mod Reader
 pub mod Listing
-pub mod Printer
-pub mod Rule
 pub mod Demand
+pub mod Printer
 pub mod Sums
 pub mod Making

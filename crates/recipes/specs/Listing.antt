@@ -7,6 +7,7 @@ use lib.ListN.{length, drop, replicate}
 use Rattle.alu.specs.declared.types.Size.the-variants.{Long}
 use Rattle.alu.specs.declared.shift_rotate.ShiftOp.{ShiftOp}
 use Rattle.alu.specs.declared.shift_rotate.ShiftOp.the-variants.{Asr, Lsl, Lsr, Roxl, Roxr}
+use Rattle.step.specs.declared.registers.State.{State}
 use Rattle.step.specs.declared.steps.TwoOp.{TwoOp}
 use Rattle.step.specs.declared.steps.TwoOp.the-variants as TwoOp
 use Rattle.step.specs.declared.steps.OneOp.{OneOp}
@@ -15,6 +16,7 @@ use Rattle.step.specs.declared.steps.Count.the-variants.{Small}
 use Rattle.step.specs.declared.steps.Form.{Form}
 use Rattle.step.specs.declared.steps.Form.the-variants.{Two, One, Shift}
 use Rattle.step.specs.declared.steps.Step.{Step}
+use Rattle.step.specs.Perform.{performOf}
 use Rattle.recipes.specs.declared.types.Verb.{Verb}
 use Rattle.recipes.specs.declared.types.Verb.the-variants.{Clear, Copy, Add, Sub, Neg, Not, Halve, Down, Up}
 use Rattle.recipes.specs.declared.types.Line.{Line}
@@ -118,6 +120,22 @@ stepsAt v = cond (isCopy v) 2 1
 unfoldable pub stepsOf : (w : ℕ) → List Line → ℕ
 stepsOf w [] = 0
 stepsOf w (l ∷ ls) = stepsAt (l .verb) * w + stepsOf w ls
+
+-- ---- clock figures
+
+-- A step's figure, as the step machine gives it from cleared registers and flags. A step of an accepted recipe's listing has this figure in every state
+-- (`listing-legal`, `figure-same` of proofs/Legal): 4 for ADD, ADDX, SUB and SUBX, 6 for CLR, NEG, NEGX and NOT, 10 for a shift. Of any other step it is
+-- the figure at rest: 0 where it is refused, a register's count as 0
+abbrev pub atRest : State
+atRest = record { d = replicate 8 0; a = replicate 8 0; flags = record { x = false; n = false; z = false; v = false; c = false } }
+
+unfoldable pub figureOf : Step → ℕ
+figureOf k = performOf atRest k .clocks
+
+-- the sum of the figures
+unfoldable pub clocksOf : List Step → ℕ
+clocksOf [] = 0
+clocksOf (k ∷ ks) = figureOf k + clocksOf ks
 
 -- ---- the translator's tests, in document 01's order: 4 (line 1); more than 32 lines, 8 (line 0); 6 and 7 on each line. `refused k line` is what a
 -- refusal answers, and `go` what is answered when all are passed

@@ -1,15 +1,14 @@
 -- What is printed, as lists of bytes: document 01, the end of "Refusal numbers". Assumes nothing.
-use Prim.Native.Nat.{ℕ, suc, _+_}
-use mathlib.Core.Bool.{false, cond}
+use Prim.Native.Nat.{ℕ, suc}
+use mathlib.Core.Bool.{cond}
 use mathlib.Core.List.{List, [], _∷_, _++_}
-use lib.ListN.{length, take, replicate}
+use lib.ListN.{length, take}
 use Rattle.alu.specs.declared.types.Size.{Size}
 use Rattle.alu.specs.declared.types.Size.the-variants.{Byte, Word, Long}
 use Rattle.alu.specs.declared.shift_rotate.ShiftOp.{ShiftOp}
 use Rattle.alu.specs.declared.shift_rotate.ShiftOp.the-variants.{Asl, Asr, Lsl, Lsr, Rol, Ror, Roxl, Roxr}
 use Rattle.alu.specs.declared.bit_manip.BitOp.{BitOp}
 use Rattle.alu.specs.declared.bit_manip.BitOp.the-variants.{Btst, Bset, Bclr, Bchg}
-use Rattle.step.specs.declared.registers.State.{State}
 use Rattle.step.specs.declared.steps.TwoOp.{TwoOp}
 use Rattle.step.specs.declared.steps.TwoOp.the-variants.{Add, Sub, Cmp, Addx, Subx}
 use Rattle.step.specs.declared.steps.AddressOp.{AddressOp}
@@ -25,7 +24,6 @@ use Rattle.step.specs.declared.steps.Count.the-variants as Count
 use Rattle.step.specs.declared.steps.Form.{Form}
 use Rattle.step.specs.declared.steps.Form.the-variants.{Two, Address, Quick, One, Shift, Bit, Chk}
 use Rattle.step.specs.declared.steps.Step.{Step}
-use Rattle.step.specs.Perform.{performOf}
 use Rattle.recipes.specs.declared.types.Recipe.{Recipe}
 use Rattle.recipes.specs.declared.types.Refusal.{Refusal}
 use Rattle.recipes.specs.declared.types.Listing.{Listing}
@@ -33,7 +31,7 @@ use Rattle.recipes.specs.declared.types.Reading.{Reading}
 use Rattle.recipes.specs.Text.{ascii, decimalOf}
 use Rattle.recipes.specs.Recipe.{numberOf, isNothing}
 use Rattle.recipes.specs.Reader.{readOf}
-use Rattle.recipes.specs.Listing.{translateOf, blanks}
+use Rattle.recipes.specs.Listing.{clocksOf, translateOf, blanks}
 
 abbrev pub tab : List ℕ
 tab = 9 ∷ []
@@ -149,18 +147,6 @@ stepText place k =
 unfoldable pub stepsText : (place : ℕ) → List Step → List ℕ
 stepsText place [] = []
 stepsText place (k ∷ ks) = stepText place k ++ stepsText (suc place) ks
-
--- A step's clock figure, as the step machine gives it from cleared registers and flags. A step of an accepted recipe's listing has this figure in every
--- state (`listing-legal`, `figure-same` of proofs/Legal). Of any other step it is the figure at rest: 0 where it is refused, a register's count as 0
-abbrev pub atRest : State
-atRest = record { d = replicate 8 0; a = replicate 8 0; flags = record { x = false; n = false; z = false; v = false; c = false } }
-
-unfoldable pub figureOf : Step → ℕ
-figureOf k = performOf atRest k .clocks
-
-unfoldable pub clocksOf : List Step → ℕ
-clocksOf [] = 0
-clocksOf (k ∷ ks) = figureOf k + clocksOf ks
 
 -- `width`, w and the number of steps; the steps; `clocks` and the sum of their figures
 unfoldable pub listingText : (w : ℕ) → List Step → List ℕ

@@ -1,4 +1,6 @@
--- What a recipe means for whole numbers: document 01, "Recipes", its table of lines. Nothing here knows of steps. Assumes nothing.
+-- What a recipe means for whole numbers: document 01, "Recipes", its table of lines. Nothing here knows of steps. `cond test yes no` is a choice; a
+-- subtraction of natural numbers stops at 0, and none below does: a number of w registers is below M = 2 ^ (32 w) (`number-below` of proofs/Numbers).
+-- Assumes nothing.
 use Prim.Native.Nat.{ℕ, zero, suc, _+_, _-_, _*_, _/_, _%_, _^_}
 use mathlib.Core.Bool.{Bool, true, false, not, cond}
 use mathlib.Core.List.{List, [], _∷_, _++_}
@@ -17,15 +19,16 @@ use Rattle.recipes.specs.Recipe.{target}
 
 -- ---- numbers in registers
 
-abbrev pub word : ℕ
-word = 2 ^ 32
+-- a register holds a number below this
+abbrev pub radix : ℕ
+radix = 2 ^ 32
 
--- the number that words make, lowest first
+-- the number that registers make, lowest first
 abbrev pub value : List ℕ → ℕ
 value [] = 0
-value (d ∷ ds) = d + word * value ds
+value (d ∷ ds) = d + radix * value ds
 
--- n registers from p on
+-- n registers from Dp on
 abbrev pub registersFrom : (n p : ℕ) → List ℕ → List ℕ
 registersFrom zero p d = []
 registersFrom (suc n) p d = getD d p 0 ∷ registersFrom n (suc p) d
@@ -42,19 +45,19 @@ numbersFrom w d (suc n) k = numberAt w d k ∷ numbersFrom w d n (suc k)
 abbrev pub numbersOf : (w : ℕ) → List ℕ → List ℕ
 numbersOf w d = numbersFrom w d (8 / w) 0
 
--- back again: the w words of a number, and the registers that hold some numbers (`registers-back` of proofs/Numbers)
-abbrev pub wordsOf : (w v : ℕ) → List ℕ
-wordsOf zero v = []
-wordsOf (suc w) v = v % word ∷ wordsOf w (v / word)
+-- back again: the w long words of a number, and the registers that hold some numbers. Where w divides 8, as 1, 2 and 4 do, `registersOf w (numbersOf w d)`
+-- is d again (`registers-back` of proofs/Numbers)
+abbrev pub longsOf : (w v : ℕ) → List ℕ
+longsOf zero v = []
+longsOf (suc w) v = v % radix ∷ longsOf w (v / radix)
 
 unfoldable pub registersOf : (w : ℕ) → List ℕ → List ℕ
 registersOf w [] = []
-registersOf w (v ∷ vs) = wordsOf w v ++ registersOf w vs
+registersOf w (v ∷ vs) = longsOf w v ++ registersOf w vs
 
--- ---- the table, over the bits n of a number, so that M is 2 ^ n; s is number a and d the target before the line
+-- ---- the table, over the bits n of a number, so that M is 2 ^ n
 
--- The target's number after the line. A number with its top bit set stands for d - M; half of that, rounded down, is (d - M) / 2, and again plus M it is
--- (d + M) / 2
+-- The target's number after the line: d is what it was before, and s number a, which copy, add and sub alone read.
 abbrev pub valueAfter : (n : ℕ) → Verb → (s d : ℕ) → ℕ
 valueAfter n Clear s d = 0
 valueAfter n Copy s d = s
@@ -62,9 +65,11 @@ valueAfter n Add s d = (d + s) % 2 ^ n
 valueAfter n Sub s d = (d + (2 ^ n - s)) % 2 ^ n
 valueAfter n Neg s d = (2 ^ n - d) % 2 ^ n
 valueAfter n Not s d = 2 ^ n - 1 - d
+-- a number with its top bit set stands for d - M; half of that, rounded down, is (d - M) / 2, and again plus M it is (d + M) / 2 (`halve-signed` of
+-- proofs/Meaning)
 valueAfter n Halve s d = cond (top n d) ((d + 2 ^ n) / 2) (d / 2)
 valueAfter n Down s d = d / 2
-valueAfter n Up s d = 2 * d % 2 ^ n
+valueAfter n Up s d = (2 * d) % 2 ^ n
 
 -- X after the line; x is X before
 abbrev pub xAfter : (n : ℕ) → Verb → (s d : ℕ) → (x : Bool) → Bool
@@ -78,7 +83,8 @@ xAfter n Halve s d x = lowest d
 xAfter n Down s d x = lowest d
 xAfter n Up s d x = leb (2 ^ n) (2 * d)
 
--- after add, sub and neg all flags are those of the whole number, by the Manual's rows in n bits; after the other lines only X is promised
+-- After add, sub and neg all flags are those of the whole number, by the Manual's rows in n bits: C the carry or borrow, V that the signed result doesn't
+-- fit n bits, N its sign, Z that it is 0 (`add-means`, `sub-means`, `neg-means` of proofs/Meaning). After the other lines only X is promised.
 abbrev pub codesOf : (n : ℕ) → Verb → (s d : ℕ) → Codes
 codesOf n Clear s d = Open
 codesOf n Copy s d = Open
@@ -93,17 +99,17 @@ codesOf n Up s d = Open
 -- ---- line by line
 
 -- what the rule speaks of: the numbers, X, and what is told of all five flags
-pub record Numbers : Type 0 where
+pub record Account : Type 0 where
   pub numbers : List ℕ
   pub x : Bool
   pub codes : Codes
 
 -- what a state says
-abbrev pub saidBy : (w : ℕ) → State → Numbers
+abbrev pub saidBy : (w : ℕ) → State → Account
 saidBy w s = record { numbers = numbersOf w (s .d); x = s .flags .x; codes = Known (s .flags) }
 
 -- a line changes no number but its target
-abbrev pub ruleOf : (w : ℕ) → Line → Numbers → Numbers
+abbrev pub ruleOf : (w : ℕ) → Line → Account → Account
 ruleOf w l r =
     let n = 32 * w in
     let s = getD (r .numbers) (l .a) 0 in
@@ -114,6 +120,6 @@ ruleOf w l r =
       codes = codesOf n (l .verb) s d;
     }
 
-unfoldable pub rulesOf : (w : ℕ) → List Line → Numbers → Numbers
+unfoldable pub rulesOf : (w : ℕ) → List Line → Account → Account
 rulesOf w [] r = r
 rulesOf w (l ∷ ls) r = rulesOf w ls (ruleOf w l r)

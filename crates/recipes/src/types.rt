@@ -65,15 +65,15 @@ pub struct Listing {
     pub steps: [Step; 256],
 }
 
-// What is told of the flags after a recipe's last line: after add, sub and neg all five, which are those of the whole
-// number; after any other line document 01 promises X alone.
+// What is told of all five flags. After add, sub and neg they are known: those of the whole number. After any other line
+// document 01 promises X alone. With no line, and where a recipe is refused, they are known: as they were.
 pub enum Codes {
     Open,
     Known(Flags),
 }
 
-// What came of a recipe that was run: its refusal and the text line of that; the registers, X and what is told of the
-// other flags; the steps done and the sum of their figures. A refused recipe leaves the state as it was.
+// What came of a recipe that was run: its refusal and the text line of that; the registers, X, and what is told of all
+// flags; the steps done and the sum of their figures. A refused recipe leaves the state as it was.
 pub struct RecipeRun {
     pub refusal: Refusal,
     pub line: usize,

@@ -20,7 +20,7 @@ use Rattle.step.specs.declared.runs.End.{End}
 use Rattle.step.specs.declared.runs.End.the-variants as End
 use Rattle.step.specs.declared.runs.Ran.{Ran}
 use Rattle.step.specs.Run.{Spot, here, atEnd, pastEnd, spotOf, ends, counted, followed, met, runOf}
-use Rattle.step.specs.Parts.{after, goesOn, runInParts, total}
+use Rattle.step.specs.Parts.{after, goesOn, runInParts, PartsGo, total}
 
 pub no : {A : Type 0} → false ≡ true → A
 no e = let z : _≡_ {A = ℕ} 0 1 = cc in absurd (omega arith)
@@ -181,19 +181,14 @@ module _ (f : State → Step → Performed) (l : List Step) where
       going-met (spotOf l p) s p _ _ (λ t. going-followed (f s t .outcome) (f s t) p (λ u q. runOf f l u q (j + k)) (λ u q. runOf f l u q j) (λ u q. run-going u q j k))
       (subst (λ (b : ℕ). goesOn (runOf f l s p b .end) ≡ true) (suc-add j k) g)
 
-  -- every part but the last goes on
-  abbrev pub PartsGo : State → (p b : ℕ) → (bs : List ℕ) → Type 0
-  PartsGo s p b [] = Unit {0}
-  PartsGo s p b (c ∷ bs) = let r = runOf f l s p b in (goesOn (r .end) ≡ true) × PartsGo (r .state) (r .next) c bs
-
   -- however often a run is halted, it comes to what it would have come to
-  pub run-in-parts : (bs : List ℕ) (s : State) (p b : ℕ) → PartsGo s p b bs → runInParts f l s p b bs ≡ runOf f l s p (total b bs)
+  pub run-in-parts : (bs : List ℕ) (s : State) (p b : ℕ) → PartsGo f l s p b bs → runInParts f l s p b bs ≡ runOf f l s p (total b bs)
   run-in-parts [] s p b g = refl
   run-in-parts (c ∷ bs) s p b g =
       let r = runOf f l s p b in ap (after (r .steps) (r .clocks)) (run-in-parts bs (r .state) (r .next) c (g .1)) ∙ sym (run-split s p b (total c bs) (g .0))
 
   -- where the whole run goes on, so does every part
-  pub parts-go : (bs : List ℕ) (s : State) (p b : ℕ) → goesOn (runOf f l s p (total b bs) .end) ≡ true → PartsGo s p b bs
+  pub parts-go : (bs : List ℕ) (s : State) (p b : ℕ) → goesOn (runOf f l s p (total b bs) .end) ≡ true → PartsGo f l s p b bs
   parts-go [] s p b g = tt
   parts-go (c ∷ bs) s p b g =
       let r = runOf f l s p b in

@@ -118,10 +118,11 @@ module _ (f : State → Step → Performed) (l : List Step) where
     pub state : runOf f l s p 0 .state ≡ s
     pub next : runOf f l s p 0 .next ≡ p
     pub steps : runOf f l s p 0 .steps ≡ 0
+    pub clocks : runOf f l s p 0 .clocks ≡ 0
 
   idle-as : (s : State) (p : ℕ) (e : End) → runOf f l s p 0 ≡ ends e s p → goesOn e ≡ true → Idle s p
   idle-as s p e is g =
-      record { goes = ap (λ (r : Ran). goesOn (r .end)) is ∙ g; state = ap (λ (r : Ran). r .state) is; next = ap (λ (r : Ran). r .next) is; steps = ap (λ (r : Ran). r .steps) is }
+      record { goes = ap (λ (r : Ran). goesOn (r .end)) is ∙ g; state = ap (λ (r : Ran). r .state) is; next = ap (λ (r : Ran). r .next) is; steps = ap (λ (r : Ran). r .steps) is; clocks = ap (λ (r : Ran). r .clocks) is }
 
   pub idle : (s : State) (p : ℕ) → p ≤ length l → Idle s p
   idle s p h = go (spotOf l p) refl

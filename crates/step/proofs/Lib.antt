@@ -4,4 +4,5 @@ pub mod Promises
 pub mod Leading
 mod Running
 mod Stepping
+pub mod Numbers
 pub mod Determined

@@ -1,5 +1,7 @@
 -- What the ruling of a step means. A step that is sound is never refused by its operation (`never-refused`), so that no refused answer is ever taken
--- for a result. A step is refused with document 01's number 3, 2 or 1, in that order, exactly where a test fails (`perform-number`). Assumes nothing.
+-- for a result. A step is refused with document 01's number 3, 2 or 1, in that order, exactly where a test fails (`perform-number`). It traps with the
+-- class of the crate alu exactly where it is a sound CHK that doesn't pass (`perform-class`). A refused step changes nothing
+-- (`perform-kept`). Assumes nothing.
 use mathlib.Core.Path.{_≡_, refl, ap, _∙_}
 use mathlib.Core.Bool.{Bool, true, false, cond, _&&_}
 use Prim.Native.Nat.{ℕ, _≤_, _%_, _<_}
@@ -17,6 +19,7 @@ use Rattle.alu.specs.declared.types.Check.the-variants.{Pass, Over, Short, Belo
 use Rattle.alu.specs.declared.shift_rotate.ShiftOp.{ShiftOp}
 use Rattle.alu.specs.declared.shift_rotate.ShiftOp.the-variants.{Asl, Asr, Lsl, Lsr, Rol, Ror, Roxl, Roxr}
 use Rattle.alu.specs.declared.bit_manip.BitOp.{BitOp}
+use Rattle.alu.specs.Answers.{classOf as checkClass}
 use Rattle.alu.specs.Arith.{chkOf}
 use Rattle.alu.specs.Shifts.{shiftOf}
 use Rattle.alu.specs.Bitops.{bitopOf}
@@ -38,7 +41,7 @@ use Rattle.step.specs.declared.steps.Ruling.{Ruling}
 use Rattle.step.specs.declared.steps.Ruling.the-variants.{Sound, Faulty}
 use Rattle.step.specs.Registers.{dataOf, addressOf}
 use Rattle.step.specs.Perform.{numberOf, refusalOf, there, registerThere, countThere, within, countWithin, notByte, isWord, isLong, quickSize, oneSize, rulingOf}
-use Rattle.step.specs.Perform.{twoOf, onAddressOf, quickOf, quickAddressOf, oneOf, registerValue, countValue, outcomeOf, actOf, judged, performForm, refusedWith}
+use Rattle.step.specs.Perform.{twoOf, onAddressOf, quickOf, quickAddressOf, oneOf, registerValue, countValue, outcomeOf, actOf, judged, performForm, refusedWith, trappedWith}
 use Rattle.step.proofs.Laws.{no}
 
 -- ---- the number of a ruling
@@ -116,6 +119,57 @@ pub perform-number : (s : State) (size : Size) (form : Form)
     → refusedWith (performForm s size form .outcome) ≡ cond (registersOf form) (cond (sizeOf size form) (cond (smallOf form) 0 1) 2) 3
 perform-number s size form =
     judged-number (rulingOf size form) s size form ∙ (ap ruledWith (ruling-is size form) ∙ refusal-number (registersOf form) (sizeOf size form) (smallOf form))
+
+-- ---- the class of a trap
+
+-- what CHK finds; no other form checks anything
+abbrev pub checkIn : State → Size → Form → Check
+checkIn s size (Two op r t) = Pass
+checkIn s size (Address op r t) = Pass
+checkIn s size (Quick op k t) = Pass
+checkIn s size (One op t) = Pass
+checkIn s size (Shift op c t) = Pass
+checkIn s size (Bit op c t) = Pass
+checkIn s size (Chk r t) = chkOf size (dataOf s r) (dataOf s t) (s .flags) .check
+
+outcome-class : (check : Check) → trappedWith (outcomeOf check) ≡ checkClass check
+outcome-class Pass = refl
+outcome-class Over = refl
+outcome-class Short = refl
+outcome-class Below = refl
+
+act-class : (s : State) (size : Size) (form : Form) → trappedWith (actOf s size form .outcome) ≡ checkClass (checkIn s size form)
+act-class s size (Two op r t) = refl
+act-class s size (Address op r t) = refl
+act-class s size (Quick op k (Register.Data t)) = refl
+act-class s size (Quick op k (Register.Address t)) = refl
+act-class s size (One op t) = refl
+act-class s size (Shift op c t) = refl
+act-class s size (Bit op c t) = refl
+act-class s size (Chk r t) = outcome-class (chkOf size (dataOf s r) (dataOf s t) (s .flags) .check)
+
+judged-class : (registers size small : Bool) (s : State) (k : Size) (form : Form)
+    → trappedWith (judged (refusalOf registers size small) s (actOf s k form) .outcome) ≡ cond (registers && size && small) (checkClass (checkIn s k form)) 0
+judged-class false size small s k form = refl
+judged-class true false small s k form = refl
+judged-class true true false s k form = refl
+judged-class true true true s k form = act-class s k form
+
+-- where every test is passed the class of what CHK finds, 0 for Pass and for every other form; a refused step doesn't trap
+pub perform-class : (s : State) (size : Size) (form : Form)
+    → trappedWith (performForm s size form .outcome) ≡ cond (registersOf form && sizeOf size form && smallOf form) (checkClass (checkIn s size form)) 0
+perform-class s size form = rw (ruling-is size form) (judged-class (registersOf form) (sizeOf size form) (smallOf form) s size form)
+
+-- ---- a refused step changes nothing and counts no clocks
+
+judged-kept : (ruling : Ruling) (s : State) (size : Size) (form : Form) → (refusedWith (judged ruling s (actOf s size form) .outcome) ≡ 0 → ⊥)
+    → let w = judged ruling s (actOf s size form) in (w .state ≡ s) × (w .clocks ≡ 0)
+judged-kept Sound s size form h = absurd (h (act-number s size form))
+judged-kept (Faulty fault) s size form h = (refl, refl)
+
+pub perform-kept : (s : State) (size : Size) (form : Form) → (refusedWith (performForm s size form .outcome) ≡ 0 → ⊥)
+    → (performForm s size form .state ≡ s) × (performForm s size form .clocks ≡ 0)
+perform-kept s size form = judged-kept (rulingOf size form) s size form
 
 -- ---- a sound step's operation is not refused
 

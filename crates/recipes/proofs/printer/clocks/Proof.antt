@@ -5,7 +5,7 @@ use native.Mathlib.Omega.{arith}
 use lib.Seq.{take-all}
 use lib.ListN.{length, take}
 use borrow.Author.Needs.{needs}
-use Rattle.recipes.specs.Printer.{clocksOf}
+use Rattle.recipes.specs.Listing.{clocksOf}
 use Rattle.recipes.proofs.Writing.{mapped}
 use Rattle.recipes.proofs.Printing.{clocks-next}
 use Rattle.recipes.proofs.printer.clocks.Statement.{statement}

@@ -4,7 +4,7 @@ use borrow.Author.Needs.{needs}
 use Rattle.step.specs.declared.registers.State.{State}
 use Rattle.step.specs.declared.steps.Performed.{Performed}
 use Rattle.step.specs.Perform.{performOf}
-use Rattle.recipes.specs.Printer.{figureOf}
+use Rattle.recipes.specs.Listing.{figureOf}
 use Rattle.recipes.proofs.printer.figure.Statement.{statement}
 use Rattle.recipes.proofs.printer.figure.Tie as tie
 

@@ -2,9 +2,9 @@
 use borrow.Author.Needs.{needs}
 use borrow.Author.Tests.{not-true, not-false}
 use mathlib.Core.Path.{sym, _∙_}
-use Rattle.recipes.specs.Demand.{Words}
+use Rattle.recipes.specs.Demand.{EightLongs}
 use Rattle.recipes.proofs.Accepting.{Good}
-use Rattle.recipes.proofs.RunByRule.{words-owned, made-good, run-refused, run-ruled}
+use Rattle.recipes.proofs.RunByRule.{longs-owned, made-good, run-refused, run-ruled}
 use Rattle.recipes.proofs.runner.run_recipe.Statement.{statement}
 use Rattle.recipes.proofs.runner.run_recipe.Tie as tie
 
@@ -42,7 +42,7 @@ returns-2 c =
     let t = n .before in
     let s = t .before .before in
     let g = s .good .1 .0 in
-    let ok : Words (s .args .state .d) = search words-owned in
+    let ok : EightLongs (s .args .state .d) = search longs-owned in
     run-ruled _ _ _ _ _ (t .translate-array .ensures) (sym (n .is-nothing .ensures) ∙ not-false (n .is-nothing .result) (i .if1 .left)) ok (run .run-array .ensures) (c .codes-after .ensures)
 
 pub run-recipe-spec : {M : Type 1} → statement M
