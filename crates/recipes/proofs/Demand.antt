@@ -9,7 +9,7 @@
 use mathlib.Core.Path.{_≡_, refl, sym, ap, ap₂, _∙_, subst, subst⁻¹}
 use mathlib.Core.Bool.{Bool, true, false, _||_, false≢true}
 use mathlib.Core.List.{List, [], _∷_, _++_, append-nil}
-use Prim.Native.Nat.{ℕ, zero, suc, _+_, _-_, _*_, _/_, _≤_, _<_}
+use Prim.Native.Nat.{ℕ, zero, suc, _+_, _-_, _*_, _/_, _≤_}
 use native.Mathlib.Omega.{arith}
 use native.Mathlib.Nat.{add-zero, zero-add, add-assoc}
 use borrow.Author.Tests.{eqb-true}
@@ -24,7 +24,7 @@ use Rattle.step.specs.declared.runs.End.the-variants.{Finished}
 use Rattle.step.specs.declared.runs.Ran.{Ran}
 use Rattle.step.specs.Perform.{performOf}
 use Rattle.step.specs.Run.{ends, runOf}
-use Rattle.step.specs.Parts.{after, goesOn, runInParts, total}
+use Rattle.step.specs.Parts.{after, goesOn, total}
 use Rattle.step.proofs.Laws.{spot-end, run-end, run-in-parts, parts-go}
 use Rattle.step.proofs.Promises.{Alu, Legal, Steps, performs}
 use Rattle.step.proofs.Leading.{All, executed, figures, Stands, stands-first, stands-left, stands-right, Leads, leads-none, leads-then, leads-like, leads-through, leads-in-parts, idle}
@@ -35,7 +35,7 @@ use Rattle.recipes.specs.declared.types.Codes.{Codes}
 use Rattle.recipes.specs.declared.types.Codes.the-variants.{Known}
 use Rattle.recipes.specs.Recipe.{isNothing, isWidth, target, recipeLines, Names, Accepted}
 use Rattle.recipes.specs.Reader.{readOf}
-use Rattle.recipes.specs.Listing.{lineSteps, listingOf, stepsAt, stepsOf, over, translateOf, figureOf, clocksOf}
+use Rattle.recipes.specs.Listing.{lineSteps, listingOf, stepsAt, stepsOf, over, translateOf, clocksOf}
 use Rattle.recipes.specs.Rule.{numbersOf, registersOf, codesOf, Account, saidBy, ruleOf, rulesOf}
 use Rattle.recipes.specs.Demand.{EightLongs, Holds, Ruled, Meets, Finishes, Demand3, HaltedBehind, CalledOneByOne, FromText}
 use Rattle.recipes.proofs.Steps.{line-length, listing-steps}

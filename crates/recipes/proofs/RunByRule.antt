@@ -25,7 +25,7 @@ use Rattle.recipes.specs.declared.types.Recipe.{Recipe}
 use Rattle.recipes.specs.declared.types.Refusal.the-variants.{Nothing}
 use Rattle.recipes.specs.declared.types.Listing.{Listing}
 use Rattle.recipes.specs.declared.types.Codes.{Codes}
-use Rattle.recipes.specs.declared.types.Codes.the-variants.{Open, Known}
+use Rattle.recipes.specs.declared.types.Codes.the-variants.{Known}
 use Rattle.recipes.specs.declared.types.RecipeRun.{RecipeRun}
 use Rattle.recipes.specs.Recipe.{isNothing, unused, recipeLines}
 use Rattle.recipes.specs.Reader.{readOf}

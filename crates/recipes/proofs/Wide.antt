@@ -2,20 +2,18 @@
 use mathlib.Core.Path.{_≡_, refl, sym, ap, _∙_}
 use mathlib.Core.Bool.{Bool, _&&_}
 use mathlib.Core.List.{[], _∷_}
-use Prim.Native.Nat.{ℕ, suc, _+_, _*_, _^_, _<_}
+use Prim.Native.Nat.{ℕ, suc, _*_, _<_}
 use native.Mathlib.Nat.{mod-eq-of-lt}
 use native.Mathlib.Omega.{arith}
 use lib.Dec.{eqb}
 use lib.ListN.{length}
 use Rattle.alu.specs.declared.types.Flags.{Flags}
-use Rattle.alu.specs.Bits.{digit}
 use Rattle.alu.specs.ConditionCodes.{addV, subV, negV, arithFlags, addFlags, subFlags, negFlags, keepZ}
 use Rattle.step.proofs.Promises.{Left, Linked, Alu, Promises}
 use Rattle.recipes.specs.declared.types.Verb.{Verb}
 use Rattle.recipes.specs.declared.types.Verb.the-variants.{Add, Sub, Neg}
-use Rattle.recipes.specs.Listing.{highestFirst}
 use Rattle.recipes.specs.Rule.{value}
-use Rattle.recipes.proofs.Chain.{modulus, Row, Pairs, Bounded, Are, AllBelow, Kept, low, low-length, low-below, low-kept, low-linked, value-below, sources, targets}
+use Rattle.recipes.proofs.Chain.{modulus, Row, Pairs, Bounded, Are, AllBelow, low, low-length, low-below, low-kept, low-linked, value-below, sources, targets}
 use Rattle.recipes.proofs.Verbs.{balanceOf, carryOf, wordOf, word-below, rise-kept}
 use Rattle.recipes.proofs.Whole.{add-c, sub-c, neg-c}
 

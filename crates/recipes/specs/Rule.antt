@@ -2,11 +2,10 @@
 -- subtraction of natural numbers stops at 0, and none below does: a number of w registers is below M = 2 ^ (32 w) (`number-below` of proofs/Numbers).
 -- Assumes nothing.
 use Prim.Native.Nat.{ℕ, zero, suc, _+_, _-_, _*_, _/_, _%_, _^_}
-use mathlib.Core.Bool.{Bool, true, false, not, cond}
+use mathlib.Core.Bool.{Bool, false, not, cond}
 use mathlib.Core.List.{List, [], _∷_, _++_}
 use lib.Dec.{leb, ltb, eqb}
 use lib.ListN.{getD, set}
-use Rattle.alu.specs.declared.types.Flags.{Flags}
 use Rattle.alu.specs.Bits.{top, lowest}
 use Rattle.alu.specs.ConditionCodes.{addFlags, subFlags, negFlags}
 use Rattle.step.specs.declared.registers.State.{State}

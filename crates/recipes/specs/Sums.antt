@@ -6,7 +6,7 @@ use mathlib.Core.List.{List, [], _∷_, _++_, map}
 use lib.Dec.{eqb}
 use lib.ListN.{getD, take, replicate}
 use Rattle.alu.specs.declared.types.Flags.{Flags}
-use Rattle.alu.specs.Sums.{Said, set, meets, Row, atBoth, every}
+use Rattle.alu.specs.Sums.{Said, set, meets, Row, atBoth}
 use Rattle.alu.specs.Sums as Alu
 use Rattle.step.specs.declared.registers.State.{State}
 use Rattle.step.specs.declared.runs.Ran.{Ran}

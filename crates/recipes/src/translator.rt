@@ -1,5 +1,6 @@
 // From a recipe to its listing. All steps are long; a number's registers go lowest first, those of halve and down
-// highest first.
+// highest first. In a contract `one`, `two`, `shift`, `blank` and `refused` are the definitions of specs/ that the functions
+// of that name are held to.
 ghost use mathlib.Core.Path.{_≡_};
 ghost use Prim.Native.Nat.{_/_, _%_, _*_, _+_, _-_, _<_, _≤_};
 ghost use lib.ListN.{getD, take};

@@ -3,7 +3,6 @@ use borrow.Author.Needs.{needs}
 use borrow.Author.Tests.{not-true, not-false}
 use mathlib.Core.Path.{sym, _∙_}
 use Rattle.recipes.specs.Demand.{EightLongs}
-use Rattle.recipes.proofs.Accepting.{Good}
 use Rattle.recipes.proofs.RunByRule.{longs-owned, made-good, run-refused, run-ruled}
 use Rattle.recipes.proofs.runner.run_recipe.Statement.{statement}
 use Rattle.recipes.proofs.runner.run_recipe.Tie as tie
