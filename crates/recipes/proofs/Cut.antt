@@ -1,6 +1,6 @@
 -- Document 01: the program "reads at most the first 1,024 bytes of standard input (a longer text meets its refusal within them)". Assumes nothing.
 --     read-refused   a text of 340 bytes or more is refused, and the refusal and its line are the same whatever follows
---     cut-reads      so the first 1,024 bytes of a text are read as the text is
+--     cut-reads      so the first 1,024 bytes of a text are read as the text is; cut-answers: and answered
 --     long-refused   and a longer text is refused
 use Prim.Native.Nat.{ℕ, suc, _+_, _*_, _/_, _≤_, _<_}
 use mathlib.Core.Bool.{Bool, true, false, cond, and-false}
@@ -28,6 +28,7 @@ use Rattle.recipes.specs.declared.reader.LineRead.the-variants.{Read, Sl
 use Rattle.recipes.specs.Text.{ascii, sameBytes, before, after}
 use Rattle.recipes.specs.Recipe.{isNothing, takesTwo}
 use Rattle.recipes.specs.Reader.{refusedAt, verbOf, digitOf, onlyDigit, withTwo, oneOf, twoOf, fieldsOf, lineOf, linesOf, widthLine, fromFirst, readOf}
+use Rattle.recipes.specs.Printer.{readingPrinted, answerOf}
 use Rattle.recipes.proofs.Texts.{cond-same}
 use Rattle.recipes.proofs.Accepting.{no-read}
 use Rattle.recipes.proofs.Agreeing.{HasNumber, line-number}
@@ -221,3 +222,8 @@ pub long-refused : (text : List ℕ) → 1024 < length text → isNothing (readO
 long-refused text h =
     let r = read-refused text (omega arith) in
     rw (← append-nil text, r .same []) (r .some)
+
+-- so the program, which reads no more than 1,024 bytes, prints what the whole text is answered with
+pub cut-answers : (text : List ℕ) → answerOf (take 1024 text) ≡ answerOf text
+unfolding answerOf
+cut-answers text = ap readingPrinted (cut-reads text)
