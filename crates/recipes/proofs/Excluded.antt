@@ -38,40 +38,40 @@ abbrev noFlags : Flags
 noFlags = record { x = false; n = false; z = false; v = false; c = false }
 
 -- D0 to D3, and 0 in the other registers
-abbrev from : (d0 d1 d2 d3 : ℕ) → State
-from d0 d1 d2 d3 = record { d = d0 ∷ d1 ∷ d2 ∷ d3 ∷ 0 ∷ 0 ∷ 0 ∷ 0 ∷ []; a = replicate 8 0; flags = noFlags }
+abbrev loaded : (d0 d1 d2 d3 : ℕ) → State
+loaded d0 d1 d2 d3 = record { d = d0 ∷ d1 ∷ d2 ∷ d3 ∷ 0 ∷ 0 ∷ 0 ∷ 0 ∷ []; a = replicate 8 0; flags = noFlags }
 
 -- ---- the answers of a function that meets the contract of `run_text`
 
 abbrev Meeting : (List ℕ → State → RecipeRun) → Type 0
 Meeting f = (text : List ℕ) (s : State) → f text s ≡ textRunOf text s
 
-empty-accepted : isNothing (textRunOf (ascii "width\t1\n") (from 0 0 0 0) .refusal) ≡ true
+empty-accepted : isNothing (textRunOf (ascii "width\t1\n") (loaded 0 0 0 0) .refusal) ≡ true
 unfolding textRunOf readOf linesOf widthLine digitOf sameBytes before after
 empty-accepted = refl
 
 pub refuses-all : (f : List ℕ → State → RecipeRun) → Meeting f → ((text : List ℕ) (s : State) → isNothing (f text s .refusal) ≡ false) → ⊥
 refuses-all f meets refuses =
-    true≢false (sym empty-accepted ∙ (ap (λ (r : RecipeRun). isNothing (r .refusal)) (sym (meets _ (from 0 0 0 0))) ∙ refuses _ (from 0 0 0 0)))
+    true≢false (sym empty-accepted ∙ (ap (λ (r : RecipeRun). isNothing (r .refusal)) (sym (meets _ (loaded 0 0 0 0))) ∙ refuses _ (loaded 0 0 0 0)))
 
 -- 1 is negated to FFFFFFFF
-negated : getD (textRunOf (ascii "width\t1\nneg\t0\n") (from 1 0 0 0) .d) 0 0 ≡ 0xffff_ffff
+negated : getD (textRunOf (ascii "width\t1\nneg\t0\n") (loaded 1 0 0 0) .d) 0 0 ≡ 0xffff_ffff
 unfolding textRunOf readOf linesOf lineOf verbOf digitOf widthLine sameBytes before after checkedOf rulesOf registersOf
 negated = refl
 
 pub does-nothing : (f : List ℕ → State → RecipeRun) → Meeting f → ((text : List ℕ) (s : State) → f text s .d ≡ s .d) → ⊥
 does-nothing f meets stays =
     let e : _≡_ {A = ℕ} 1 0xffff_ffff =
-    ap (λ (d : List ℕ). getD d 0 0) (sym (stays (ascii "width\t1\nneg\t0\n") (from 1 0 0 0)) ∙ ap (λ (r : RecipeRun). r .d) (meets _ (from 1 0 0 0))) ∙ negated in
+    ap (λ (d : List ℕ). getD d 0 0) (sym (stays (ascii "width\t1\nneg\t0\n") (loaded 1 0 0 0)) ∙ ap (λ (r : RecipeRun). r .d) (meets _ (loaded 1 0 0 0))) ∙ negated in
     omega arith
 
 -- without a line 0 stays 0
-kept : getD (textRunOf (ascii "width\t1\n") (from 0 0 0 0) .d) 0 0 ≡ 0
+kept : getD (textRunOf (ascii "width\t1\n") (loaded 0 0 0 0) .d) 0 0 ≡ 0
 unfolding textRunOf readOf linesOf widthLine digitOf sameBytes before after rulesOf registersOf
 kept = refl
 
 -- and so by demand 3 itself: no run that leaves the registers meets the rule of `neg`
-pub rests : (r : Ran) → Meets 1 (record { verb = Neg; a = 0; b = 0 } ∷ []) (from 1 0 0 0) r → r .state .d ≡ from 1 0 0 0 .d → ⊥
+pub rests : (r : Ran) → Meets 1 (record { verb = Neg; a = 0; b = 0 } ∷ []) (loaded 1 0 0 0) r → r .state .d ≡ loaded 1 0 0 0 .d → ⊥
 unfolding rulesOf
 rests r meets stays =
     let e : _≡_ {A = ℕ} 1 0xffff_ffff = ap (λ (d : List ℕ). getD (numbersOf 1 d) 0 0) (sym stays) ∙ ap (λ (ns : List ℕ). getD ns 0 0) (meets .rule .numbers) in
@@ -80,7 +80,7 @@ rests r meets stays =
 pub constant-run : (r : RecipeRun) → ((text : List ℕ) (s : State) → r ≡ textRunOf text s) → ⊥
 constant-run r same =
     let d0 : RecipeRun → ℕ = λ r. getD (r .d) 0 0 in
-    let e : _≡_ {A = ℕ} 0 0xffff_ffff = sym kept ∙ (sym (ap d0 (same _ (from 0 0 0 0))) ∙ (ap d0 (same (ascii "width\t1\nneg\t0\n") (from 1 0 0 0)) ∙ negated)) in
+    let e : _≡_ {A = ℕ} 0 0xffff_ffff = sym kept ∙ (sym (ap d0 (same _ (loaded 0 0 0 0))) ∙ (ap d0 (same (ascii "width\t1\nneg\t0\n") (loaded 1 0 0 0)) ∙ negated)) in
     omega arith
 
 -- ---- operations
@@ -98,7 +98,7 @@ abbrev listing : List Step
 listing = listingOf 2 (record { verb = Add; a = 0; b = 1 } ∷ record { verb = Neg; a = 1; b = 0 } ∷ [])
 
 abbrev start : State
-start = from 1 0 0xffff_ffff 0
+start = loaded 1 0 0xffff_ffff 0
 
 after-one : getD (runOf performOf listing start 0 1 .state .d) 3 0 ≡ 0
 unfolding runOf listingOf lineSteps risingRest top sum difference addFlags negFlags
