@@ -3,6 +3,7 @@
 --     demand-3           Demand3 of specs/Demand
 --     halted-behind      HaltedBehind: halted behind the steps of its first lines, the registers and flags are as those lines leave them
 --     one-by-one         CalledOneByOne: it holds for whoever calls the translator and the run one by one; from-text: and the reader before them
+--     called-whole, called-halted   the same in the words of the contracts of `translate` and `run`
 --     steps-few          an accepted recipe has at most 256 steps
 --     meets-one          two runs that meet the rule and end alike are equal, once their flags are; `meets-x`: their X is; `meets-flags`: after add, sub and neg, all five
 --     ruled-registers    the rule's numbers determine the registers
@@ -30,12 +31,13 @@ use Rattle.step.proofs.Promises.{Alu, Legal, Steps, performs}
 use Rattle.step.proofs.Leading.{All, executed, figures, Stands, stands-first, stands-left, stands-right, Leads, leads-none, leads-then, leads-like, leads-through, leads-in-parts, idle}
 use Rattle.recipes.specs.declared.types.Line.{Line}
 use Rattle.recipes.specs.declared.types.Recipe.{Recipe}
+use Rattle.recipes.specs.declared.types.Translated.{Translated}
 use Rattle.recipes.specs.declared.types.Listing.{Listing}
 use Rattle.recipes.specs.declared.types.Codes.{Codes}
 use Rattle.recipes.specs.declared.types.Codes.the-variants.{Known}
 use Rattle.recipes.specs.Recipe.{isNothing, isWidth, target, recipeLines, Names, Accepted}
 use Rattle.recipes.specs.Reader.{readOf}
-use Rattle.recipes.specs.Listing.{lineSteps, listingOf, stepsAt, stepsOf, over, translateOf, clocksOf}
+use Rattle.recipes.specs.Listing.{lineSteps, listingOf, stepsAt, stepsOf, over, translated, translateOf, clocksOf}
 use Rattle.recipes.specs.Rule.{numbersOf, registersOf, codesOf, Account, saidBy, ruleOf, rulesOf}
 use Rattle.recipes.specs.Demand.{EightLongs, Holds, Ruled, Meets, Finishes, Demand3, HaltedBehind, CalledOneByOne, FromText}
 use Rattle.recipes.proofs.Steps.{line-length, listing-steps}
@@ -199,6 +201,29 @@ from-text text slots e room =
     let r = readOf text .recipe in
     let g = read-sound text e in
     ap (λ (t : Listing). isNothing (t .refusal)) (good-translates r slots g (omega (arith, steps-few r g)))
+
+-- in the words of the contracts: t and `left` are what `translate` says and leaves, ran what `run` or `run_array` answers
+module _ (r : Recipe) (slots left : List Step) (t : Translated) (made : translated t left ≡ translateOf r slots) (fine : isNothing (t .refusal) ≡ true) (s : State) (ok : EightLongs (s .d)) where
+  abbrev listing : List Step
+  listing = take (t .count) left
+
+  called : (b : ℕ) (bs : List ℕ) → t .count ≤ total b bs → Finishes (r .width) (recipeLines r) listing s b bs
+  called b bs enough =
+      subst⁻¹ (λ (l : Listing). isNothing (l .refusal) ≡ true → l .count ≤ total b bs → Finishes (r .width) (recipeLines r) (take (l .count) (l .steps)) s b bs) made
+      (λ e few. one-by-one r slots e s ok b bs few) fine enough
+
+  -- run whole
+  pub called-whole : (b : ℕ) → t .count ≤ b → (ran : Ran) → ran ≡ runOf performOf listing s 0 b → (ran .end ≡ Finished) × Meets (r .width) (recipeLines r) s ran
+  called-whole b enough ran is =
+      let f = called b [] enough in subst⁻¹ (λ (q : Ran). (q .end ≡ Finished) × Meets (r .width) (recipeLines r) s q) is (f .end, f .meets)
+
+  -- halted after at most j steps, and continued with registers, flags and place kept
+  pub called-halted : (j k : ℕ) → t .count ≤ j + k → (first : Ran) → first ≡ runOf performOf listing s 0 j → (ran : Ran) → ran ≡ runOf performOf listing (first .state) (first .next) k
+      → (ran .end ≡ Finished) × Meets (r .width) (recipeLines r) s (after (first .steps) (first .clocks) ran)
+  called-halted j k enough first is ran again =
+      let f = called j (k ∷ []) enough in
+      subst⁻¹ (λ (q : Ran). (q .end ≡ Finished) × Meets (r .width) (recipeLines r) s (after (first .steps) (first .clocks) q)) again
+      (subst⁻¹ (λ (q : Ran). let c = runOf performOf listing (q .state) (q .next) k in (c .end ≡ Finished) × Meets (r .width) (recipeLines r) s (after (q .steps) (q .clocks) c)) is (f .end, f .meets))
 
 -- ---- nothing is left open
 
