@@ -6,8 +6,8 @@ use Rattle.alu.specs.Bits.{top, signed}
 use Rattle.alu.specs.ConditionCodes.{addFlags, subFlags, negFlags}
 use Rattle.alu.specs.Arith.{sum, difference, checkOf}
 use Rattle.alu.specs.Shifts.{turn, turns, changed, shiftOf}
-use Rattle.alu.specs.Sums.{table, every, holds, holdsAt, answers, found, atBoth}
+use Rattle.alu.specs.Sums.{table, every, holds, holdsAt, answers, found, atBoth, always}
 
 pub sums : T (every holds table)
-unfolding table every holds holdsAt answers found atBoth top signed sum difference checkOf addFlags subFlags negFlags xor turn turns changed shiftOf
+unfolding table every holds holdsAt answers found atBoth always top signed sum difference checkOf addFlags subFlags negFlags xor turn turns changed shiftOf
 sums = tt

@@ -36,7 +36,8 @@ pub join-low : (n m : ℕ) → {a : ℕ} → a < 2 ^ n → (b : ℕ) → low (n 
 join-low n m {a} a<N b =
     ap (λ (k : ℕ). join n a b % 2 ^ k) (add-comm n m) ∙ mod-pow-add (join n a b) m n ∙ rw (high b n a<N, Pow.low b n a<N)
 
-join-zero : (n : ℕ) (a b : ℕ) → eqb (join n a b) 0 ≡ (eqb b 0 && eqb a 0)
+-- a joined number is 0 if both its parts are
+pub join-zero : (n : ℕ) (a b : ℕ) → eqb (join n a b) 0 ≡ (eqb b 0 && eqb a 0)
 join-zero n a b = go (eqb b 0) (eqb a 0) refl refl where
   go : (p q : Bool) → eqb b 0 ≡ p → eqb a 0 ≡ q → eqb (join n a b) 0 ≡ (p && q)
   go true true e f =

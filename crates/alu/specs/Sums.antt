@@ -81,13 +81,16 @@ holdsAt (givesIn clocks operation result x n z v c) f =
     let a = operation f in eqb (a .clocks) clocks && answers a f result x n z v c
 holdsAt (finds operation class n) f = found (operation f) f class n
 
--- a row holds for each of the 32 settings of the flags before
+-- for each of the 32 settings of the flags
 unfoldable pub atBoth : (Bool → Bool) → Bool
 atBoth test = test true && test false
 
+unfoldable pub always : (Flags → Bool) → Bool
+always test = atBoth (λ x. atBoth (λ n. atBoth (λ z. atBoth (λ v. atBoth (λ c. test (record { x = x; n = n; z = z; v = v; c = c }))))))
+
+-- a row holds whatever the flags before
 unfoldable pub holds : Row → Bool
-holds row =
-    atBoth (λ x. atBoth (λ n. atBoth (λ z. atBoth (λ v. atBoth (λ c. holdsAt row (record { x = x; n = n; z = z; v = v; c = c }))))))
+holds row = always (holdsAt row)
 
 unfoldable pub every : {A : Type 0} → (A → Bool) → List A → Bool
 every test [] = true

@@ -2,18 +2,18 @@
 -- register holds, 32 bits. Assumes nothing.
 --     low-kept, high-kept   the balance of the whole number, lowest word first and highest word first
 --     low-linked            N, Z, V and C of the whole number, lowest word first
-use mathlib.Core.Path.{_≡_, refl, sym, ap, _∙_, subst₃}
-use mathlib.Core.Bool.{Bool, true, false, _&&_}
+use mathlib.Core.Path.{_≡_, refl, sym, ap, ap₂, _∙_, subst₃}
+use mathlib.Core.Bool.{Bool, true, false, _&&_, and-comm}
 use mathlib.Core.List.{List, [], _∷_}
-use Prim.Native.Nat.{ℕ, zero, suc, _+_, _-_, _*_, _/_, _%_, _^_, _<_}
-use native.Mathlib.Nat.{mul-suc, add-comm, add-zero, zero-add, add-mul-div-left, div-eq-of-lt, div-div-eq-div-mul}
+use Prim.Native.Nat.{ℕ, zero, suc, _+_, _-_, _*_, _^_, _<_}
+use native.Mathlib.Nat.{mul-suc, add-comm, add-zero}
 use native.Mathlib.Omega.{arith}
-use borrow.Author.Tests.{eqb-true, eqb-false, eq-eqb, ne-eqb}
-use lib.Dec.{eqb, lit<}
+use lib.Dec.{eqb}
 use lib.Pow.{pow-add}
 use lib.ListN.{length}
 use Rattle.alu.specs.declared.types.Flags.{Flags}
-use Rattle.alu.specs.Bits.{top}
+use Rattle.alu.specs.Bits.{top, join}
+use Rattle.alu.proofs.Wide.{join-top, join-zero}
 use Rattle.step.proofs.Promises.{Left, Linked}
 use Rattle.recipes.specs.Rule.{radix, value}
 
@@ -113,13 +113,7 @@ value-below (d ∷ ds) h = omega (arith, modulus-suc (length ds), value-below ds
 
 -- the top bit of the whole is the highest word's
 top-cons : (n d v : ℕ) → d < radix → top (32 * suc n) v ≡ top (32 * suc (suc n)) (d + radix * v)
-unfolding top
-top-cons n d v h =
-    let e : 32 * suc (suc n) - 1 ≡ 32 + (32 * suc n - 1) = omega arith in
-    let up : (d + radix * v) / radix ≡ v = add-mul-div-left d v (lit< tt) ∙ ap (λ (k : ℕ). k + v) (div-eq-of-lt h) ∙ zero-add v in
-    ap (λ (k : ℕ). eqb (k % 2) 1)
-    (ap (λ (k : ℕ). k / 2 ^ (32 * suc n - 1)) (sym up) ∙ div-div-eq-div-mul (d + radix * v) radix (2 ^ (32 * suc n - 1))
-    ∙ ap (λ (k : ℕ). (d + radix * v) / k) (sym (ap (λ (k : ℕ). 2 ^ k) e ∙ pow-add 2 32 (32 * suc n - 1))))
+top-cons n d v h = sym (join-top 32 (32 * suc n) (omega arith) h v) ∙ ap₂ {C = Bool} top (omega arith) (omega arith)
 
 abbrev pub highest : ℕ → List ℕ → ℕ
 highest d [] = d
@@ -131,12 +125,8 @@ highest-top d (e ∷ ds) h = highest-top e ds (h .1) ∙ top-cons (length ds) d 
 
 -- a number is 0 if its words are
 zero-both : (d v : ℕ) → eqb d 0 && eqb v 0 ≡ eqb (d + radix * v) 0
-zero-both d v = go (eqb d 0) (eqb v 0) refl refl
-  where
-    go : (a b : Bool) → eqb d 0 ≡ a → eqb v 0 ≡ b → eqb d 0 && eqb v 0 ≡ eqb (d + radix * v) 0
-    go true true e f = rw (e, f) (sym (eq-eqb (d + radix * v) 0 (omega (arith, eqb-true d 0 e, eqb-true v 0 f))))
-    go true false e f = rw (e, f) (sym (ne-eqb (d + radix * v) 0 (λ h. eqb-false v 0 f (omega arith))))
-    go false b e f = rw e (sym (ne-eqb (d + radix * v) 0 (λ h. eqb-false d 0 e (omega arith))))
+zero-both d v =
+    let joined : join 32 d v ≡ d + radix * v = omega arith in and-comm (eqb d 0) (eqb v 0) ∙ (sym (join-zero 32 d v) ∙ ap (λ (k : ℕ). eqb k 0) joined)
 
 zero-under : (z : Bool) (d v : ℕ) → (z && eqb d 0) && eqb v 0 ≡ z && eqb (d + radix * v) 0
 zero-under true d v = zero-both d v

@@ -26,7 +26,7 @@ use Rattle.step.specs.declared.runs.Ran.{Ran}
 use Rattle.step.specs.Perform.{performOf}
 use Rattle.step.specs.Run.{ends, runOf}
 use Rattle.step.specs.Parts.{after, goesOn, total}
-use Rattle.step.proofs.Laws.{spot-end, run-end, run-in-parts, parts-go}
+use Rattle.step.proofs.Laws.{spot-end, run-end}
 use Rattle.step.proofs.Promises.{Alu, Legal, Steps, performs}
 use Rattle.step.proofs.Leading.{All, executed, figures, Stands, stands-first, stands-left, stands-right, Leads, leads-none, leads-then, leads-like, leads-through, leads-in-parts, idle}
 use Rattle.recipes.specs.declared.types.Line.{Line}
@@ -76,7 +76,7 @@ figures-append figure [] ls = sym (zero-add _)
 figures-append figure (k ∷ ks) ls = ap (λ (c : ℕ). figure k + c) (figures-append figure ks ls) ∙ sym (add-assoc (figure k) _ _)
 
 module _ (f : State → Step → Performed) (step : Steps f) (n : ℕ) (l : List Step) (s₀ : State) where
-  -- from place p, n steps of c clocks in all lead to place q and to a state that says r
+  -- from state s at place p, so many steps of so many clocks in all lead to place q and to a state that says r
   record Came (p : ℕ) (s : State) (steps clocks : ℕ) (r : Account) (q : ℕ) : Type 0 where
     state : State
     leads : Leads f l s p steps clocks state q
@@ -125,29 +125,22 @@ came-through n ls more h s ok =
     (figures-printed ks s (listing-legal (suc n) ls h))
     (record { state = came .state; leads = leads-like performOf (ks ++ more) (came .leads) _ _ refl (zero-add _); rule = came .rule })
 
--- run in parts with enough budget, it comes to the end
-finishes : (n : ℕ) (ls : List Line) → Accepted (suc n) ls → (s : State) → EightLongs (s .d) → (b : ℕ) (bs : List ℕ) → stepsOf (suc n) ls ≤ total b bs
-    → Finishes (suc n) ls (listingOf (suc n) ls) s b bs
-finishes n ls h s ok b bs enough =
+pub demand-3 : Demand3
+demand-3 zero pos ls h s ok b bs enough = absurd (omega arith)
+demand-3 (suc n) pos ls h s ok b bs enough =
     let l = listingOf (suc n) ls in
     let steps = stepsOf (suc n) ls in
     let more = total b bs - steps in
     let came = subst (λ (k : List Step). Came performOf performs n k s 0 s steps (clocksOf l) (rulesOf (suc n) ls (saidBy (suc n) s)) steps) (append-nil l) (came-through n ls [] h s ok) in
     let over : runOf performOf l (came .state) steps more ≡ ends Finished (came .state) steps =
     run-end performOf l (came .state) steps more (spot-end l steps (sym (listing-steps (suc n) ls))) in
-    let whole : runOf performOf l s 0 (total b bs) ≡ after steps (clocksOf l) (ends Finished (came .state) steps) =
-    ap (runOf performOf l s 0) (omega arith) ∙ (came .leads .runs more ∙ ap (after steps (clocksOf l)) over) in
-    let go = parts-go performOf l bs s 0 b (subst⁻¹ (λ (r : Ran). goesOn (r .end) ≡ true) whole refl) in
-    let parts = run-in-parts performOf l bs s 0 b go ∙ whole in
+    let led = leads-in-parts performOf l (came .leads) more b bs (omega arith) (subst⁻¹ (λ (r : Ran). goesOn (r .end) ≡ true) over refl) in
+    let parts = led .1 ∙ ap (after steps (clocksOf l)) over in
     record {
-      parts = go;
+      parts = led .0;
       end = ap (λ (r : Ran). r .end) parts;
       meets = subst⁻¹ (Meets (suc n) ls s) parts (record { rule = came .rule; next = refl; steps = add-zero _; clocks = add-zero _ });
     }
-
-pub demand-3 : Demand3
-demand-3 zero pos ls h s ok b bs enough = absurd (omega arith)
-demand-3 (suc n) pos ls h s ok b bs enough = finishes n ls h s ok b bs enough
 
 pub halted-behind : HaltedBehind
 halted-behind zero pos ls h more s ok b bs there = absurd (omega arith)
@@ -158,15 +151,17 @@ halted-behind (suc n) pos ls h more s ok b bs there =
     let came = came-through n ls more h s ok in
     let inside : steps ≤ length l = omega (arith, listing-steps (suc n) ls, length-append (listingOf (suc n) ls) more) in
     let idles = idle performOf l (came .state) steps inside in
-    let parts = leads-in-parts performOf l (came .leads) 0 b bs (omega arith) (idles .goes) in
-    subst⁻¹ (λ (r : Ran). (goesOn (r .end) ≡ true) × Meets (suc n) ls s r) parts (
-      idles .goes,
-      record {
-        rule = subst⁻¹ (Ruled (suc n) (rulesOf (suc n) ls (saidBy (suc n) s)) s) (idles .state) (came .rule);
-        next = idles .next;
-        steps = ap (λ (k : ℕ). steps + k) (idles .steps) ∙ add-zero _;
-        clocks = ap (λ (k : ℕ). clocks + k) (idles .clocks) ∙ add-zero _;
-      },
+    let led = leads-in-parts performOf l (came .leads) 0 b bs (omega arith) (idles .goes) in (
+      led .0,
+      subst⁻¹ (λ (r : Ran). (goesOn (r .end) ≡ true) × Meets (suc n) ls s r) (led .1) (
+        idles .goes,
+        record {
+          rule = subst⁻¹ (Ruled (suc n) (rulesOf (suc n) ls (saidBy (suc n) s)) s) (idles .state) (came .rule);
+          next = idles .next;
+          steps = ap (λ (k : ℕ). steps + k) (idles .steps) ∙ add-zero _;
+          clocks = ap (λ (k : ℕ). clocks + k) (idles .clocks) ∙ add-zero _;
+        },
+      ),
     )
 
 -- ---- for the code

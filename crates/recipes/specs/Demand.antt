@@ -76,7 +76,8 @@ abbrev pub HaltedBehind : Type 0
 HaltedBehind =
     (w : ℕ) → 0 < w → (ls : List Line) → Accepted w ls → (more : List Step) → (s : State) → EightLongs (s .d) → (b : ℕ) (bs : List ℕ)
     → total b bs ≡ stepsOf w ls
-    → let r = runInParts performOf (listingOf w ls ++ more) s 0 b bs in (goesOn (r .end) ≡ true) × Meets w ls s r
+    → let l = listingOf w ls ++ more in
+    let r = runInParts performOf l s 0 b bs in PartsGo performOf l s 0 b bs × ((goesOn (r .end) ≡ true) × Meets w ls s r)
 
 -- Called one by one: what `translate` or `translate_array` made of a recipe that it accepted, run by `run` or `run_array` in its first `count` slots. (`run`
 -- takes all slots that it is lent. Who lends it the slots past the listing too has `HaltedBehind`, for budgets that end with the listing.)

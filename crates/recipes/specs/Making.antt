@@ -1,5 +1,5 @@
--- Terms of private functions' contracts: the search for a byte, writing, the translator's parts, and what a run tells of the flags. No promise of a public function names anything of this
--- page, and a reader of the promises can leave it out. Assumes nothing.
+-- Terms of private functions' contracts: the search for a byte, writing, the translator's parts, and what a run tells of the flags. No promise of a
+-- public function names anything of this page, and a reader of the promises can leave it out. Assumes nothing.
 use mathlib.Core.Path.{_≡_}
 use mathlib.Core.Bool.{Bool, true, false, cond}
 use mathlib.Core.List.{List, [], _∷_}

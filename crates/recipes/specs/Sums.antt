@@ -6,7 +6,7 @@ use mathlib.Core.List.{List, [], _∷_, _++_, map}
 use lib.Dec.{eqb}
 use lib.ListN.{getD, take, replicate}
 use Rattle.alu.specs.declared.types.Flags.{Flags}
-use Rattle.alu.specs.Sums.{Said, set, meets, Row, atBoth}
+use Rattle.alu.specs.Sums.{Said, set, meets, Row, always}
 use Rattle.alu.specs.Sums as Alu
 use Rattle.step.specs.declared.registers.State.{State}
 use Rattle.step.specs.declared.runs.Ran.{Ran}
@@ -36,8 +36,7 @@ holdsAt text before d2 d3 x f =
     let after = ranFrom text (record { d = before ++ replicate 4 0; a = replicate 8 0; flags = f }) .state in
     isNothing (readOf text .refusal) && eqb (getD (after .d) 2 0) d2 && eqb (getD (after .d) 3 0) d3 && meets x (f .x) (after .flags .x)
 
--- for each of the 32 settings of the flags before
+-- whatever the flags before
 unfoldable pub holds : Sum → Bool
 holds (single row) = Alu.holds row
-holds (recipe text before d2 d3 x) =
-    atBoth (λ x′. atBoth (λ n. atBoth (λ z. atBoth (λ v. atBoth (λ c. holdsAt text before d2 d3 x (record { x = x′; n = n; z = z; v = v; c = c }))))))
+holds (recipe text before d2 d3 x) = always (holdsAt text before d2 d3 x)

@@ -22,7 +22,7 @@ use Rattle.step.specs.declared.runs.End.{End}
 use Rattle.step.specs.declared.runs.End.the-variants as End
 use Rattle.step.specs.declared.runs.Ran.{Ran}
 use Rattle.step.specs.Run.{Spot, here, atEnd, pastEnd, spotOf, ends, counted, followed, runOf}
-use Rattle.step.specs.Parts.{after, goesOn, runInParts, total}
+use Rattle.step.specs.Parts.{after, goesOn, runInParts, PartsGo, total}
 use Rattle.step.proofs.Laws.{after-none, run-end, run-none, run-step, run-in-parts, parts-go}
 use Rattle.step.proofs.Promises.{Alu, Legal, applied, Gives, Steps}
 
@@ -105,12 +105,13 @@ module _ (f : State → Step → Performed) (l : List Step) where
             ∙ (ap₂ {C = Ran} (λ (t : State) (c : ℕ). counted c (runOf f l t (suc p) b)) (does .state) (does .clocks) ∙ after-one c _)));
       }
 
-  -- steps that lead somewhere lead there in parts: budgets b and bs, enough for them and `more`
+  -- Steps that lead somewhere lead there in parts: budgets b and bs, enough for them and `more`. No part is trapped or refused
   pub leads-in-parts : {s t : State} {p n c q : ℕ} → Leads s p n c t q → (more b : ℕ) (bs : List ℕ) → total b bs ≡ n + more
-      → goesOn (runOf f l t q more .end) ≡ true → runInParts f l s p b bs ≡ after n c (runOf f l t q more)
+      → goesOn (runOf f l t q more .end) ≡ true → PartsGo f l s p b bs × (runInParts f l s p b bs ≡ after n c (runOf f l t q more))
   leads-in-parts {s} {t} {p} {n} {c} {q} h more b bs e g =
       let whole : runOf f l s p (total b bs) ≡ after n c (runOf f l t q more) = ap (runOf f l s p) e ∙ h .runs more in
-      run-in-parts f l bs s p b (parts-go f l bs s p b (subst⁻¹ (λ (r : Ran). goesOn (r .end) ≡ true) whole g)) ∙ whole
+      let go = parts-go f l bs s p b (subst⁻¹ (λ (r : Ran). goesOn (r .end) ≡ true) whole g) in
+      (go, run-in-parts f l bs s p b go ∙ whole)
 
   -- with no budget a run stays where it is, up to the end
   pub record Idle (s : State) (p : ℕ) : Type 0 where
