@@ -63,7 +63,8 @@ fn size_of(number: u8) -> Found
     }
 }
 
-fn flags_of(ccr: u8) -> Flags
+// The flags of a packed byte; its bits above X don't count.
+pub fn flags_of(ccr: u8) -> Flags
     ensures { λ r. ⌜ r ≡ flagsOf ccr ⌝ }
 {
     Flags {
@@ -86,6 +87,13 @@ fn ccr_of(f: Flags) -> u64
     ensures { λ r. ⌜ (r ≡ ccrOf f) × (r ≤ 31) ⌝ }
 {
     weigh(f.x, 16) + weigh(f.n, 8) + weigh(f.z, 4) + weigh(f.v, 2) + weigh(f.c, 1)
+}
+
+// The flags as a packed byte.
+pub fn ccr(f: Flags) -> u8
+    ensures { λ r. ⌜ r ≡ ccrOf f ⌝ }
+{
+    ccr_of(f) as u8
 }
 
 // The refusal number and CHK's class, with the bounds that keep the packed sum within 64 bits.

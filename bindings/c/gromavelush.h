@@ -1,0 +1,104 @@
+/*
+ * Gromavelush for C: operations, recipes, listings and runs of the 68000, proved. bindings/build makes the archive
+ * target/native/libgromavelush.a, which has these functions and needs nothing but the C library's memcpy and memset.
+ *
+ * Every function takes every number, ends, and keeps no pointer. What the language cannot check, and a caller must keep:
+ *   - a pointer is to as many elements as its parameter says, aligned for its type, and all of them are set;
+ *   - a row that a function writes (it is not const) overlaps no other row of the same call, and no other thread reads or writes it
+ *     meanwhile; rows that are only read may overlap each other and be shared;
+ *   - a row of length 0 still has a pointer that is not null;
+ *   - a row has at most 2^63 - 1 bytes.
+ * The functions use at most 64 KiB of stack. They are safe to call from several threads on rows of their own.
+ */
+#ifndef GROMAVELUSH_H
+#define GROMAVELUSH_H
+
+#include <stddef.h>
+#include <stdint.h>
+
+#ifdef __cplusplus
+extern "C" {
+#endif
+
+/* Flags in one byte: X 16, N 8, Z 4, V 2, C 1. Higher bits don't count, and are 0 in answers. */
+enum gro_flag { GRO_X = 16, GRO_N = 8, GRO_Z = 4, GRO_V = 2, GRO_C = 1 };
+
+enum gro_size { GRO_BYTE = 0, GRO_WORD = 1, GRO_LONG = 2 };
+
+/* AddqA and SubqA are ADDQ and SUBQ on an address register. */
+enum gro_operation {
+    GRO_ADD = 0x00, GRO_SUB, GRO_CMP, GRO_ADDX, GRO_SUBX, GRO_ADDA, GRO_SUBA, GRO_CMPA,
+    GRO_ADDQ = 0x08, GRO_SUBQ, GRO_ADDQA, GRO_SUBQA, GRO_CLR, GRO_NEG, GRO_NEGX, GRO_NOT,
+    GRO_EXT = 0x10, GRO_ASL, GRO_ASR, GRO_LSL, GRO_LSR, GRO_ROL, GRO_ROR, GRO_ROXL,
+    GRO_ROXR = 0x18, GRO_BTST, GRO_BSET, GRO_BCLR, GRO_BCHG, GRO_CHK
+};
+
+/*
+ * One operation on values. src is the source, small number, count, bit number or CHK's bound; dst all 32 bits of the destination.
+ * Bits of the answer: 0 to 31 the result, 32 to 36 the flags, 40 to 47 the clock figure, 48 and 49 the refusal number (0: accepted),
+ * 52 and 53 CHK's class (0 Pass, 1 Over, 2 Short, 3 Below). A number that names no operation or no size is refused with 2.
+ */
+uint64_t alu_call(uint8_t operation, uint8_t size, uint32_t src, uint32_t dst, uint8_t flags);
+
+/*
+ * A step is a word of 64 bits: byte 0 (the lowest) the operation, 1 the size, 2 the source's kind, 3 the source's number, 4 the
+ * destination's register number; the bytes above don't count. The destination of ADDA, SUBA, CMPA, AddqA and SubqA is an address
+ * register, any other a data register. A word that names no step of document 01's forms is refused with 2 where it is run.
+ */
+enum gro_source { GRO_NONE = 0, GRO_SMALL = 1, GRO_DATA = 2, GRO_ADDRESS = 3 };
+#define GRO_STEP(operation, size, kind, source, destination)                                                              \
+    ((uint64_t)(uint8_t)(operation) | (uint64_t)(uint8_t)(size) << 8 | (uint64_t)(uint8_t)(kind) << 16 |                  \
+     (uint64_t)(uint8_t)(source) << 24 | (uint64_t)(uint8_t)(destination) << 32)
+
+/*
+ * Runs the first 256 steps of a listing from place start, at most budget steps. d, a and flags are the state, before and after.
+ * told: 0 the end, 1 the trap's class (1 Over, 2 Short, 3 Below) or the refusal's number, 2 the place of either, 3 the next place,
+ * 4 the steps done, 5 the sum of their clock figures.
+ */
+enum gro_end { GRO_FINISHED = 0, GRO_BUDGET = 1, GRO_TRAPPED = 2, GRO_REFUSED = 3 };
+void listing_run(const uint64_t *listing, size_t length, uint32_t d[8], uint32_t a[8], uint8_t *flags, size_t start, uint32_t budget,
+                 uint64_t told[6]);
+
+/*
+ * Prints the first 256 steps of a listing as the program recipe does, with this width in the first line. Answers how many bytes it
+ * wrote; what has no room is left off. 20,480 bytes are enough for any listing.
+ */
+size_t listing_print(uint8_t width, const uint64_t *listing, size_t length, uint8_t *out, size_t room);
+
+/*
+ * A line of a recipe is a word of 32 bits: byte 0 the verb, 1 and 2 the numbers a and b; byte 3 doesn't count. Verbs that take one
+ * number have it in a, and b doesn't count.
+ */
+enum gro_verb {
+    GRO_VERB_CLEAR, GRO_VERB_COPY, GRO_VERB_ADD, GRO_VERB_SUB, GRO_VERB_NEG, GRO_VERB_NOT, GRO_VERB_HALVE, GRO_VERB_DOWN, GRO_VERB_UP
+};
+#define GRO_LINE(verb, a, b) ((uint32_t)(uint8_t)(verb) | (uint32_t)(uint8_t)(a) << 8 | (uint32_t)(uint8_t)(b) << 16)
+
+/*
+ * Reads a recipe text. lines gets its lines, `clear 0` behind them. told: 0 the refusal number (0: none), 1 its text line, 2 the
+ * width, 3 the number of lines. A refused text has width 1 and no lines.
+ */
+void recipe_read(const uint8_t *text, size_t length, uint32_t lines[32], uint64_t told[4]);
+
+/*
+ * Translates the first count lines, at most 32, into a listing of length slots. told: 0 the refusal number, 1 its text line (line k
+ * counts as k + 2; 0 for 8 and 9), 2 the number of steps. The slots past the steps stay; a refusal leaves all. An unknown verb is
+ * refused with 5. 256 slots are enough for any recipe.
+ */
+void recipe_translate(uint8_t width, size_t count, const uint32_t lines[32], uint64_t *listing, size_t length, uint64_t told[3]);
+
+/* What the program recipe prints for a text: the listing, or `refused`, number and line. Answers as listing_print does. */
+size_t recipe_answer(const uint8_t *text, size_t length, uint8_t *out, size_t room);
+
+/*
+ * Reads a recipe text and runs it on a state. told: 0 the refusal number, 1 its text line, 2 the flags that are promised, 3 the steps,
+ * 4 the sum of their clock figures. After add, sub and neg, and with no line, all five flags are promised, else X alone; a flag that is
+ * not promised is left 0. A refused text leaves the state.
+ */
+void recipe_run(const uint8_t *text, size_t length, uint32_t d[8], uint32_t a[8], uint8_t *flags, uint64_t told[5]);
+
+#ifdef __cplusplus
+}
+#endif
+
+#endif

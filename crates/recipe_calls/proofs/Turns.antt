@@ -1,0 +1,72 @@
+-- Laws of the loops that turn a row into another, element by element. Assumes nothing.
+--     turned   a turn of a loop that fills an array
+--     put      a turn of a loop that writes to the front of a lent row
+--     filled   where the first ends
+--     taken    where the second ends
+use Prim.Native.Nat.{ℕ, suc, _+_, _≤_, _<_, min}
+use mathlib.Core.Path.{_≡_, refl, ap, sym, _∙_}
+use mathlib.Core.List.{List, [], _∷_, _++_, map, append-assoc}
+use native.Mathlib.Decide.{decLe}
+use native.Mathlib.Omega.{arith}
+use lib.ListN.{length, take, drop, getD, set, length-map}
+use lib.Seq.{take-all, take-suc, take-suc-set, drop-cons, set-at, length-take-le}
+use Rattle.alu.specs.declared.types.Size.the-variants.{Byte}
+use Rattle.step.specs.declared.steps.TwoOp.the-variants.{Add}
+use Rattle.step.specs.declared.steps.Form.the-variants.{Two}
+use Rattle.step.specs.declared.steps.Step.{Step}
+use Rattle.recipe_calls.specs.Calls.{over}
+
+map-snoc : {A B : Type 0} (f : A → B) (l : List A) (a : A) → map f (l ++ (a ∷ [])) ≡ map f l ++ (f a ∷ [])
+map-snoc f [] a = refl
+map-snoc f (x ∷ l) a = ap (λ r. f x ∷ r) (map-snoc f l a)
+
+pub turned :
+    {A B : Type 0} (f : A → B) (rs : List B) (l : List A) (i : ℕ) (d : A) →
+    take i rs ≡ map f (take i l) → i < length rs → i < length l → take (i + 1) (set rs i (f (getD l i d))) ≡ map f (take (i + 1) l)
+turned f rs l i d e h k =
+    let next : i + 1 ≡ suc i = omega arith in
+    rw next (take-suc-set rs i (f (getD l i d)) h ∙ rw (e, take-suc l i d k, map-snoc f (take i l) (getD l i d)))
+
+pub put :
+    {A : Type 0} (f : A → ℕ) (old : List ℕ) (l : List A) (i : ℕ) (d : A) →
+    i < length l → i < length old → set (over (map f (take i l)) old) i (f (getD l i d)) ≡ over (map f (take (i + 1) l)) old
+put f old l i d h k =
+    let next : i + 1 ≡ suc i = omega arith in
+    let front : length (map f (take i l)) ≡ i = length-map (take i l) f ∙ length-take-le i l (omega arith) in
+    let more : length (map f (take (suc i) l)) ≡ suc i = length-map (take (suc i) l) f ∙ length-take-le (suc i) l h in
+    rw (
+      next,
+      front,
+      more,
+      drop-cons old i 0 k,
+      set-at (map f (take i l)) (getD old i 0) (drop (suc i) old) (f (getD l i d)) i front,
+      take-suc l i d h,
+      map-snoc f (take i l) (getD l i d),
+      append-assoc,
+    )
+
+-- what a loop's place past the end of its array would hold
+abbrev pub nop : Step
+nop = record { size = Byte; form = Two Add (record { 0 = 0 }) (record { 0 = 0 }) }
+
+-- where the loop ends: the array is filled as far as the row goes, or whole
+pub filled :
+    {A B : Type 0} (f : A → B) (rs : List B) (l : List A) (i n : ℕ) →
+    length rs ≡ n → i ≡ min (length l) n → take i rs ≡ map f (take i l) → take (length l) rs ≡ map f (take n l)
+filled f rs l i n h e t = by-room (decLe (length l) n)
+  where
+    by-room : Dec (length l ≤ n) → take (length l) rs ≡ map f (take n l)
+    by-room (yes fits) =
+        let is : i ≡ length l = omega arith in
+        rw (take-all n l fits) (rw (is, take-all (length l) l (omega arith)) at t)
+    by-room (no over) =
+        let is : i ≡ n = omega (arith, over) in
+        rw (take-all (length l) rs (omega (arith, over))) (rw (is, take-all n rs (omega arith)) at t)
+
+-- as many of a row as it has, or of those that are asked for
+pub taken : {A : Type 0} (l : List A) (count n i : ℕ) → length l ≡ n → i ≡ min count n → take i l ≡ take count l
+taken l count n i h e = by-room (decLe count n)
+  where
+    by-room : Dec (count ≤ n) → take i l ≡ take count l
+    by-room (yes fits) = let is : i ≡ count = omega arith in ap (λ k. take k l) is
+    by-room (no over) = take-all i l (omega (arith, over)) ∙ sym (take-all count l (omega (arith, over)))

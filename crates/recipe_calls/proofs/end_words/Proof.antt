@@ -1,0 +1,22 @@
+-- `end_words` meets its contract, end by end. Assumes nothing.
+use mathlib.Core.Path.{_∙_}
+use borrow.Author.Needs.{needs}
+use Rattle.recipe_calls.proofs.end_words.Statement.{statement}
+use Rattle.recipe_calls.proofs.end_words.Tie as tie
+
+pub end-words-spec : {M : Type 1} → statement M
+end-words-spec =
+    tie.close
+    (tie.spec
+    (λ c. search needs)
+    (λ c. search needs)
+    (λ c. search needs)
+    (λ c. search needs)
+    (λ c. search needs)
+    (λ c. search needs)
+    (λ c. search needs)
+    (λ c. search needs)
+    (λ c. search needs)
+    (λ c. search needs)
+    (λ c. rw (c .before .before .before .end .given .1, c .long .ensures, c .before .class .ensures))
+    (λ c. rw (c .before .before .before .end2 .given .1, c .long2 .ensures, c .before .number .ensures)))

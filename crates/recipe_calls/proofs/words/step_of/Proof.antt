@@ -1,0 +1,45 @@
+-- `words::step_of` meets its contract: the bytes of the word, what they name, and its size. Assumes nothing.
+use mathlib.Core.Path.{_∙_}
+use Rattle.recipe_calls.proofs.Naming.{low, form-named, none-named}
+use borrow.Author.Needs.{needs}
+use Rattle.recipe_calls.proofs.words.step_of.Statement.{statement}
+use Rattle.recipe_calls.proofs.words.step_of.Tie as tie
+
+returns : tie.Need-returns
+returns c =
+    let s = c .before in
+    let f = s .before .before in
+    let m = f .before .before in
+    let o = m .before .before .before .before in
+    let w = o .before .before .args .word in
+    c .sized .ensures
+    ∙ form-named w (low w (o .before .byte .ensures)) (o .operation-of .ensures) (m .before .before .before .byte2 .ensures) (m .before .before .byte3 .ensures)
+    (m .before .byte4 .ensures) (m .form-of .ensures) (f .found .given .1) (s .byte5 .ensures)
+
+returns-2 : tie.Need-returns-2
+returns-2 c =
+    let f = c .before in
+    let m = f .before .before in
+    let o = m .before .before .before .before in
+    let w = o .before .before .args .word in
+    c .no-step .ensures
+    ∙ none-named w (low w (o .before .byte .ensures)) (o .operation-of .ensures) (m .before .before .before .byte2 .ensures) (m .before .before .byte3 .ensures)
+    (m .before .byte4 .ensures) (m .form-of .ensures) (f .enum-told .given .1)
+
+pub step-of-spec : {M : Type 1} → statement M
+step-of-spec =
+    tie.close
+    (tie.spec
+    (λ c. search needs)
+    (λ c. search needs)
+    (λ c. search needs)
+    (λ c. search needs)
+    (λ c. search needs)
+    (λ c. search needs)
+    (λ c. search needs)
+    (λ c. search needs)
+    (λ c. search needs)
+    (λ c. search needs)
+    (λ c. search needs)
+    returns
+    returns-2)

@@ -1,0 +1,220 @@
+// Recipes, listings and runs for Rust and C: every argument and every answer is a number, or a row of numbers that is lent.
+// bindings/c/gromavelush.h declares these functions and shows how steps and lines are laid out in words.
+//
+// Every function takes every input: none has a `requires`. A word that names no step stands for one that is refused
+// with 2; a recipe's word that names no verb is refused with 5 and its text line.
+mod rows;
+mod words;
+
+ghost use mathlib.Core.Path.{_≡_};
+ghost use lib.ListN.{length};
+ghost use Rattle.recipes.specs.Text.{written, writing};
+ghost use Rattle.recipes.specs.Printer.{listingText, answerOf};
+ghost use Rattle.recipe_calls.specs.Words.{firstOf};
+ghost use Rattle.recipe_calls.specs.Calls.{rowLeft, stateLeft, readWords, translateWords, endWords, runWords, promisedOf, ccrAfter, recipeRunWords};
+use calls::ccr;
+use calls::flags_of;
+use recipes::printer::answer;
+use recipes::printer::print;
+use recipes::reader::read;
+use recipes::runner::run_text;
+use recipes::translator::translate_array;
+use recipes::types::Codes;
+use recipes::types::Recipe;
+use recipes::types::Refusal;
+use recipes::types::number;
+use rows::line_words;
+use rows::lines_of;
+use rows::put_steps;
+use rows::said;
+use rows::steps_of;
+use step::registers::State;
+use step::runs::End;
+use step::runs::run_array;
+use step::steps::class;
+
+fn wide(x: u8) -> u64
+    ensures { λ r. ⌜ r ≡ x ⌝ }
+{
+    x as u64
+}
+
+fn long(x: u32) -> u64
+    ensures { λ r. ⌜ r ≡ x ⌝ }
+{
+    x as u64
+}
+
+// Reads a recipe text. `lines` gets its 32 lines, `told` the refusal number, its text line, the width and the number of lines.
+#[no_mangle]
+pub extern "C" fn recipe_read(text: &[u8], lines: &mut [u32; 32], told: &mut [u64; 4])
+    ensures { λ _. ⌜ rowLeft (now (lines .exit)) (now (told .exit)) ≡ readWords (now (text .entry)) ⌝ }
+{
+    let reading = read(text);
+    let refusal = reading.refusal;
+    let recipe = reading.recipe;
+    let made = recipe.lines;
+    *lines = line_words(made);
+    *told = [
+        wide(number(refusal)),
+        reading.line as u64,
+        wide(recipe.width),
+        recipe.count as u64,
+    ];
+}
+
+// Translates a recipe into a listing. `told` gets the refusal number, its text line and the number of steps.
+#[no_mangle]
+pub extern "C" fn recipe_translate(
+    width: u8,
+    count: usize,
+    lines: &[u32; 32],
+    listing: &mut [u64],
+    told: &mut [u64; 3],
+)
+    ensures { λ _. ⌜ rowLeft (now (listing .exit)) (now (told .exit)) ≡ translateWords width count (now (lines .entry)) (now (listing .entry)) ⌝ }
+{
+    let words = *lines;
+    let made = translate_array(Recipe {
+        width,
+        count,
+        lines: lines_of(words),
+    });
+    let refusal = made.refusal;
+    let steps = made.steps;
+    if listing.len() < made.count {
+        *told = [wide(number(Refusal::NoSpace)), 0, 0];
+        return;
+    }
+    put_steps(steps, made.count, listing);
+    *told = [
+        wide(said(words, number(refusal), made.line)),
+        made.line as u64,
+        made.count as u64,
+    ];
+}
+
+// How a run ends, its trap's class or its refusal's number, and the place of either.
+fn end_words(end: End) -> [u64; 3]
+    ensures { λ r. ⌜ r ≡ endWords end ⌝ }
+{
+    match end {
+        End::Finished => [0, 0, 0],
+        End::Budget => [1, 0, 0],
+        End::Trapped(trap, place) => [2, long(class(trap)), place as u64],
+        End::Refused(fault, place) => [3, long(step::steps::number(fault)), place as u64],
+    }
+}
+
+// Runs the first 256 steps of a listing from a place, with a budget. `told` gets the end, the trap's class or the refusal's
+// number, the place of either, the next place, the steps done and the sum of their figures.
+#[no_mangle]
+pub extern "C" fn listing_run(
+    listing: &[u64],
+    d: &mut [u32; 8],
+    a: &mut [u32; 8],
+    flags: &mut u8,
+    start: usize,
+    budget: u32,
+    told: &mut [u64; 6],
+)
+    ensures { λ _. ⌜ stateLeft (now (d .exit)) (now (a .exit)) (now (flags .exit)) (now (told .exit)) ≡ runWords (now (listing .entry)) (now (d .entry)) (now (a .entry)) (now (flags .entry)) start budget ⌝ }
+{
+    let before_d = *d;
+    let before_a = *a;
+    let before = State {
+        d: before_d,
+        a: before_a,
+        flags: flags_of(*flags),
+    };
+    let ran = run_array(steps_of(listing), listing.len(), before, start, budget);
+    let ended = ran.end;
+    let end = end_words(ended);
+    let after = ran.state;
+    let after_d = after.d;
+    let after_a = after.a;
+    let after_flags = after.flags;
+    *d = after_d;
+    *a = after_a;
+    *flags = ccr(after_flags);
+    *told = [
+        end[0],
+        end[1],
+        end[2],
+        ran.next as u64,
+        long(ran.steps),
+        ran.clocks,
+    ];
+}
+
+// Prints the first 256 steps of a listing, as the program `recipe` does, and answers how many bytes it wrote.
+#[no_mangle]
+pub extern "C" fn listing_print(width: u8, listing: &[u64], out: &mut [u8]) -> usize
+    ensures { λ r. ⌜ written (now (out .exit)) r ≡ writing (now (out .entry)) (listingText width (firstOf (now (listing .entry)))) ⌝ }
+{
+    print(width, steps_of(listing), listing.len(), out)
+}
+
+// What the program `recipe` prints for a text.
+#[no_mangle]
+pub extern "C" fn recipe_answer(text: &[u8], out: &mut [u8]) -> usize
+    ensures { λ r. ⌜ written (now (out .exit)) r ≡ writing (now (out .entry)) (answerOf (now (text .entry))) ⌝ }
+{
+    answer(text, out)
+}
+
+// The flags that document 01 promises behind a recipe, as bits: all five, or X alone.
+fn promised(codes: Codes) -> u8
+    ensures { λ r. ⌜ r ≡ promisedOf codes ⌝ }
+{
+    match codes {
+        Codes::Open => 16,
+        Codes::Known(_) => 31,
+    }
+}
+
+// Those flags.
+fn ccr_after(x: bool, codes: Codes) -> u8
+    ensures { λ r. ⌜ r ≡ ccrAfter x codes ⌝ }
+{
+    match codes {
+        Codes::Open => { if x { 16 } else { 0 } }
+        Codes::Known(flags) => ccr(flags),
+    }
+}
+
+// Reads a recipe text and runs it on a register set. `told` gets the refusal number, its text line, the flags that are promised,
+// the steps and the sum of their figures. A flag that is not promised is left 0.
+#[no_mangle]
+pub extern "C" fn recipe_run(
+    text: &[u8],
+    d: &mut [u32; 8],
+    a: &mut [u32; 8],
+    flags: &mut u8,
+    told: &mut [u64; 5],
+)
+    ensures { λ _. ⌜ stateLeft (now (d .exit)) (now (a .exit)) (now (flags .exit)) (now (told .exit)) ≡ recipeRunWords (now (text .entry)) (now (d .entry)) (now (a .entry)) (now (flags .entry)) ⌝ }
+{
+    let before_d = *d;
+    let before_a = *a;
+    let before = State {
+        d: before_d,
+        a: before_a,
+        flags: flags_of(*flags),
+    };
+    let ran = run_text(text, before);
+    let after_d = ran.d;
+    let after_a = ran.a;
+    let codes = ran.codes;
+    let refusal = ran.refusal;
+    *d = after_d;
+    *a = after_a;
+    *flags = ccr_after(ran.x, codes);
+    *told = [
+        wide(number(refusal)),
+        ran.line as u64,
+        wide(promised(codes)),
+        long(ran.steps),
+        ran.clocks,
+    ];
+}
