@@ -2,8 +2,8 @@
 # native.sh NAME: the static library of a proved crate for the machine that this runs on.
 # Run it in the folder that has crates.txt. Result: target/native/libNAME.a; nothing is written outside target/.
 #
-# `rt staticlib NAME` writes x86-64 code. On x86-64 its archive is copied. Elsewhere (Arm) this takes the
-# LLVM module that the kit hands to its clang for that archive, drops the lines that name x86-64, and
+# `rt staticlib NAME` writes x86-64 code. On x86-64 its archive is copied. Elsewhere (Arm) this makes the same
+# build, takes the LLVM module that the kit hands to its clang there, drops the lines that name x86-64, and
 # compiles it with the same clang at the same -O3 for this machine.
 set -eu
 [ $# -eq 1 ] && [ -f crates.txt ] || {
@@ -17,15 +17,22 @@ command -v rt >/dev/null || {
 name=$1
 machine=$(uname -m)
 out=$(pwd)/target/native
-said=$(rt staticlib "$name" 2>&1) || {
-    printf '%s\n' "$said" >&2
-    exit 1
+proved() { # COMMAND..: of rt, silent unless it fails
+    said=$("$@" 2>&1) || {
+        printf '%s\n' "$said" >&2
+        exit 1
+    }
 }
 mkdir -p "$out"
 if [ "$machine" = x86_64 ]; then
+    proved rt staticlib "$name"
     cp "target/staticlib/lib$name.a" "$out/"
     exit
 fi
+
+# What was compiled of the crate as it stands is kept: rt's stamp sums its files and those below it.
+proved rt check "$name"
+[ -f "$out/lib$name.a" ] && cmp -s "$out/$name.stamp" "target/stamp/$name" && exit
 
 home=${RATTLE_HOME:-$(dirname "$(dirname "$(rt doc)")")}
 kit=$home/on/$machine
@@ -44,7 +51,7 @@ CLANG
     chmod +x "$tools/bin/clang"
 }
 
-# The build that `rt staticlib` makes, once more with that toolchain; the archives must be the same bytes.
+# The build that `rt staticlib` makes, with that toolchain: it proves the crate, and only then compiles it.
 keep_module() {
     set --
     for dep in $(sed "s/#.*//" crates.txt | sed -n "s/^$name://p"); do
@@ -59,23 +66,22 @@ keep_module() {
         cat "$out/$name.log" >&2
         exit 1
     }
-    cmp "$out/x86_64-$name.a" "target/staticlib/lib$name.a"
 }
 
+clang() { "$kit/toolchain/bin/clang" --no-default-config "$@"; }
+
 compile_here() {
-    clang="$kit/toolchain/bin/clang --no-default-config"
-    $clang --target=x86_64-unknown-linux-gnu -x ir "$out/$name.bc" -S -emit-llvm \
+    clang --target=x86_64-unknown-linux-gnu -x ir "$out/$name.bc" -S -emit-llvm \
         -Xclang -disable-llvm-passes -o "$out/$name.ll"
     sed -i '/^target datalayout/d; /^target triple/d; s/ "target-cpu"="x86-64"//; s/ "probe-stack"="inline-asm"//' \
         "$out/$name.ll"
-    $clang "--target=$machine-unknown-linux-gnu" -Wno-override-module -x ir "$out/$name.ll" \
+    clang "--target=$machine-unknown-linux-gnu" -Wno-override-module -x ir "$out/$name.ll" \
         -c -O3 -fPIC -ffunction-sections -o "$out/$name.o"
     "$kit/toolchain/bin/llvm-ar" rcs "$out/lib$name.a" "$out/$name.o"
 }
 
-# An archive as the last one is made of the module that was compiled then.
-[ -f "$out/lib$name.a" ] && cmp -s "$out/x86_64-$name.a" "target/staticlib/lib$name.a" && exit
-rm -f "$out/lib$name.a"
+rm -f "$out/lib$name.a" "$out/$name.stamp"
 keeping_toolchain
 keep_module
 compile_here
+cp "target/stamp/$name" "$out/$name.stamp"

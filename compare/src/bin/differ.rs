@@ -1,7 +1,7 @@
 //! Differential run: the crate against the reading of document 01, then the port against both.
 //!
 //!   differ [MILLIONS]   random cases of each operation and size (default 3); the port gets thrice that
-//!   differ short        about 10^6 cases in all, spread over the same operands: the gate's
+//!   differ short        about 1.6 million cases in all, spread over the same operands: the gate's
 
 use compare::cases::{self, Extent};
 use compare::check::{Tally, crate_and_reading, port_and_both};

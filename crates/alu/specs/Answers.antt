@@ -17,6 +17,7 @@ numberOf Accepted = 0
 numberOf BadCount = 1
 numberOf NoSuchSize = 2
 
+-- an accepted answer
 abbrev pub accepted : (result : ℕ) → Flags → (clocks : ℕ) → Answer
 accepted result flags clocks = record { verdict = Accepted; result = result; flags = flags; clocks = clocks }
 

@@ -1,6 +1,7 @@
 -- The integer arithmetic of the register forms: document 01, "Result and flag rules" and "Clock figures".
 -- s is the source, d the destination, f the flags before (ADD, SUB and NEG, and ADDQ and SUBQ on data, take it for the one shape and do not look
--- at it). The last number of `accepted` is the clock figure; `unlessByte` refuses byte. Assumes nothing.
+-- at it). The last number of `accepted` is the clock figure; `unlessByte` refuses byte;
+-- `cond test yes no` is a choice. Assumes nothing.
 use Prim.Native.Nat.{ℕ, _+_, _-_, _/_, _%_, _^_}
 use mathlib.Core.Bool.{Bool, false, not, cond, _&&_}
 use lib.IntN.{ℤ, pos, _+ℤ_, _-ℤ_}
@@ -23,14 +24,14 @@ sum n s d x = (low n d + low n s + digit x) % 2 ^ n
 unfoldable pub difference : (n s d : ℕ) → (x : Bool) → ℕ
 difference n s d x = (2 ^ n + low n d - (low n s + digit x)) % 2 ^ n
 
--- the true signed sum and difference, as integers
+-- the true signed sum and difference, as integers: terms of the laws alone (proofs/Integers)
 abbrev pub trueSum : (n s d : ℕ) → (x : Bool) → ℤ
 trueSum n s d x = signed n s +ℤ signed n d +ℤ pos (digit x)
 
 abbrev pub trueDifference : (n s d : ℕ) → (x : Bool) → ℤ
 trueDifference n s d x = signed n d -ℤ signed n s -ℤ pos (digit x)
 
--- ADD, ADDX. (The source returns no figure for ADDX and SUBX; document 01 counts them 4)
+-- ADD, ADDX. (The crate m68k returns no figure for ADDX and SUBX; document 01 counts them 4)
 abbrev pub addOf : Size → (s d : ℕ) → Flags → Answer
 addOf size s d f = let n = bitsOf size in let r = sum n s d false in accepted r (addFlags n s d r) 4
 
@@ -118,8 +119,8 @@ checkOf n bound value =
     (cond (ltZ v (pos 0)) Below
     Pass))
 
--- CHK's flags: N is set if the value is below 0, Z, V and C are cleared, X is kept. (The Manual clears N where the value is above the bound, and
--- leaves Z, V and C undefined; document 01 and the source have it so.)
+-- CHK's flags: N is set if the value is below 0, Z, V and C are cleared, X is kept: so document 01 and the crate m68k. (The Manual's row is another: it
+-- clears N where the value is above the bound, and leaves Z, V and C undefined.)
 abbrev pub chkFlags : (value : ℕ) → Flags → Flags
 chkFlags value f = record { x = f .x; n = ltZ (signed 16 value) (pos 0); z = false; v = false; c = false }
 

@@ -22,7 +22,7 @@ bitResult Bchg k d = withBit k (not (bit k d)) d
 abbrev pub bitFlags : (k d : ℕ) → Flags → Flags
 bitFlags k d f = record { x = f .x; n = f .n; z = not (bit k d); v = f .v; c = f .c }
 
--- BSET and BCHG: 6, from bit 16 on 8. BCLR: 10 at every bit, as the source returns it
+-- BTST: 6. BSET and BCHG: 6, from bit 16 on 8. BCLR: 10 at every bit, as the crate m68k returns it
 abbrev pub bitFigure : BitOp → (k : ℕ) → ℕ
 bitFigure Btst k = 6
 bitFigure Bset k = cond (ltb k 16) 6 8

@@ -48,6 +48,7 @@ abbrev pub fits : ℕ → ℤ → Bool
 fits n z = leZ (negℤ (pos (2 ^ (n - 1)))) z && ltZ z (pos (2 ^ (n - 1)))
 
 -- the signed reading raised by 2 ^ (n - 1), so that it is a natural number: 0 stands for the least, 2 ^ n - 1 for the greatest
+-- (a term of private contracts and of laws)
 unfoldable pub raised : (n x : ℕ) → ℕ
 raised n x = (x + 2 ^ (n - 1)) % 2 ^ n
 

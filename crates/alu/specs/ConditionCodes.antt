@@ -1,5 +1,5 @@
 -- The condition codes: the Manual's table of condition code computations, its rows of integer arithmetic and of the logic operations. (V and C of
--- the shifts are in Shifts.)
+-- the shifts are in Shifts, CHK's flags in Arith, Z of the bit operations in Bitops.)
 -- s, d and r are the source, the destination and the result; the formulas take their top bits Sm, Dm, Rm. n is the number of bits;
 -- the field `n` of `Flags` is the flag N. Assumes nothing.
 use Prim.Native.Nat.{ℕ}
@@ -59,6 +59,6 @@ keepX old new = record { x = old .x; n = new .n; z = new .z; v = new .v; c = new
 unfoldable pub logicFlags : (n r : ℕ) → Flags → Flags
 logicFlags n r f = resultFlags n r (f .x) false false
 
--- the condition LT of the Manual's conditional tests, of the flags N and V
+-- the condition LT of the Manual's conditional tests, of the flags N and V: a term of the laws alone
 abbrev pub isLT : (n v : Bool) → Bool
 isLT n v = n && not v || not n && v

@@ -1,5 +1,5 @@
 -- Terms of the contracts of helpers in src/shift_rotate.rt, which work on n + 1 places: the n bits of an operand and the bit held beside them.
--- No public function's contract cites this page. Assumes nothing.
+-- No contract of a public function names anything of this page, and a reader can leave it out. Assumes nothing.
 use Prim.Native.Nat.{ℕ, _+_, _-_, _*_, _/_, _%_, _^_}
 use Rattle.alu.specs.declared.shift_rotate.Held.{Held}
 use Rattle.alu.specs.Bits.{low, bit, lowest, digit}

@@ -15,7 +15,7 @@ use Rattle.alu.specs.Bits.{bitsOf, low, lowest, top, digit}
 use Rattle.alu.specs.ConditionCodes.{resultFlags}
 use Rattle.alu.specs.Answers.{accepted, refused, figure}
 
--- `Held`: an operand of n bits (`value`, below 2 ^ n) and one bit beside it (`out`): the bit that went out last; before the first position, X.
+-- `Held` (src/shift_rotate.rt): an operand of n bits (`value`, below 2 ^ n) and one bit beside it (`out`): the bit that went out last; before the first position, X.
 
 -- one position to the left: b comes in at the bottom, the top bit goes out
 abbrev pub left : (n : ℕ) → (b : Bool) → (value : ℕ) → Held

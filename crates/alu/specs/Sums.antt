@@ -81,7 +81,7 @@ holdsAt (givesIn clocks operation result x n z v c) f =
     let a = operation f in eqb (a .clocks) clocks && answers a f result x n z v c
 holdsAt (finds operation class n) f = found (operation f) f class n
 
--- for each of the 32 settings of the flags
+-- for both settings of a flag, and for each of the 32 settings of all five
 unfoldable pub atBoth : (Bool → Bool) → Bool
 atBoth test = test true && test false
 
@@ -92,6 +92,7 @@ always test = atBoth (λ x. atBoth (λ n. atBoth (λ z. atBoth (λ v. atBoth (λ
 unfoldable pub holds : Row → Bool
 holds row = always (holdsAt row)
 
+-- for every element
 unfoldable pub every : {A : Type 0} → (A → Bool) → List A → Bool
 every test [] = true
 every test (a ∷ rest) = test a && every test rest

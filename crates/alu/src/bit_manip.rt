@@ -29,7 +29,7 @@ fn weight(k: u32) -> u32
     1 << k
 }
 
-// The figure of BSET and BCHG.
+// The figure of BSET and BCHG: 8 in the upper half of the register.
 fn upper_figure(k: u32) -> u32
     ensures { λ r. ⌜ r ≡ cond (ltb k 16) 6 8 ⌝ }
 {

@@ -138,7 +138,7 @@ pub fn exec_addq(size: Size, src: u32, dst: u32, flags: Flags) -> Answer
     accepted(answer.result, new, figure(size, 4, 8))
 }
 
-// ADDQ #<data>,An: the source's exec_addq with AddressDirect. All 32 bits are used at either size; no
+// ADDQ #<data>,An: m68k's exec_addq with AddressDirect. All 32 bits are used at either size; no
 // flag is touched.
 pub fn exec_addq_address(size: Size, src: u32, dst: u32, flags: Flags) -> Answer
     ensures { λ r. ⌜ r ≡ addqAddressOf size src dst flags ⌝ }
@@ -308,7 +308,7 @@ pub fn set_cmp_flags(size: Size, src: u32, dst: u32, result: u32, flags: Flags) 
     }
 }
 
-// N and Z of the result; V and C are cleared, X is kept. (The source has it in data_movement.rs.)
+// N and Z of the result; V and C are cleared, X is kept. (m68k has it in data_movement.rs.)
 pub fn set_logic_flags(size: Size, result: u32, flags: Flags) -> Flags
     ensures { λ r. ⌜ r ≡ logicFlags (bitsOf size) result flags ⌝ }
 {

@@ -1,7 +1,7 @@
 // ASL, ASR, LSL, LSR, ROL, ROR, ROXL and ROXR of a data register, on values and flags: shift_rotate.rs
 // of the crate m68k, in its order.
 //
-// The code puts X beside the operand and moves bits + 1 places at once in 64 bits. The source's cases
+// `shift` is document 01's count. The code puts X beside the operand and moves bits + 1 places at once in 64 bits. m68k's cases
 // for counts at and above the size fall away: what stands in X's place at the end is the last bit out.
 ghost use mathlib.Core.Path.{_≡_};
 ghost use Prim.Native.Nat.{_+_, _-_, _%_, _<_, _≤_, _^_};
@@ -129,7 +129,7 @@ fn asr(size: Size, k: u32, value: u32, x: bool) -> Held
     from_below((places >> k) + fill)
 }
 
-// V of ASL, position by position as the source walks: it is set if the top bit changes at any of them.
+// V of ASL, position by position as m68k walks: it is set if the top bit changes at any of them.
 // After as many as the size has bits, zeros follow zeros.
 fn asl_overflow(size: Size, k: u32, value: u32) -> bool
     ensures { λ r. ⌜ r ≡ changed (bitsOf size) k (low (bitsOf size) value) ⌝ }
@@ -203,7 +203,7 @@ fn roxr(size: Size, k: u32, value: u32, x: bool) -> Held
 }
 
 // N and Z of the result; every position costs 2 clocks.
-fn answer(size: Size, k: u32, result: u32, x: bool, v: bool, c: bool) -> Answer
+fn shift_answer(size: Size, k: u32, result: u32, x: bool, v: bool, c: bool) -> Answer
     requires { ⌜ k < 64 ⌝ }
     ensures { λ r. ⌜ r ≡ shiftAnswer size k result x v c ⌝ }
 {
@@ -213,14 +213,14 @@ fn answer(size: Size, k: u32, result: u32, x: bool, v: bool, c: bool) -> Answer
 }
 
 // A shift by 0 returns the value as it was handed in, and clears C.
-fn shift_answer(size: Size, k: u32, value: u32, h: Held, v: bool) -> Answer
+fn shifted(size: Size, k: u32, value: u32, h: Held, v: bool) -> Answer
     requires { ⌜ k < 64 ⌝ }
     ensures { λ r. ⌜ r ≡ shifted size k value h v ⌝ }
 {
     if k == 0 {
-        answer(size, k, value, h.out, v, false)
+        shift_answer(size, k, value, h.out, v, false)
     } else {
-        answer(size, k, h.value, h.out, v, h.out)
+        shift_answer(size, k, h.value, h.out, v, h.out)
     }
 }
 
@@ -231,7 +231,7 @@ pub fn exec_asl(size: Size, shift: u32, value: u32, flags: Flags) -> Answer
     let k = shift % 64;
     let h = lsl(size, k, value, flags.x);
     let v = asl_overflow(size, k, value);
-    shift_answer(size, k, value, h, v)
+    shifted(size, k, value, h, v)
 }
 
 // ASR Dx,Dy and ASR #<data>,Dy
@@ -240,7 +240,7 @@ pub fn exec_asr(size: Size, shift: u32, value: u32, flags: Flags) -> Answer
 {
     let k = shift % 64;
     let h = asr(size, k, value, flags.x);
-    shift_answer(size, k, value, h, false)
+    shifted(size, k, value, h, false)
 }
 
 // LSL Dx,Dy and LSL #<data>,Dy
@@ -249,7 +249,7 @@ pub fn exec_lsl(size: Size, shift: u32, value: u32, flags: Flags) -> Answer
 {
     let k = shift % 64;
     let h = lsl(size, k, value, flags.x);
-    shift_answer(size, k, value, h, false)
+    shifted(size, k, value, h, false)
 }
 
 // LSR Dx,Dy and LSR #<data>,Dy
@@ -258,7 +258,7 @@ pub fn exec_lsr(size: Size, shift: u32, value: u32, flags: Flags) -> Answer
 {
     let k = shift % 64;
     let h = lsr(size, k, value, flags.x);
-    shift_answer(size, k, value, h, false)
+    shifted(size, k, value, h, false)
 }
 
 // ROL Dx,Dy and ROL #<data>,Dy. X is kept. The last bit out is the one that came in last.
@@ -268,7 +268,7 @@ pub fn exec_rol(size: Size, shift: u32, value: u32, flags: Flags) -> Answer
     let k = shift % 64;
     let result = rotate(size, round(size, k), value);
     let last = result % 2 == 1;
-    answer(size, k, result, flags.x, false, (k != 0) & last)
+    shift_answer(size, k, result, flags.x, false, (k != 0) & last)
 }
 
 // ROR Dx,Dy and ROR #<data>,Dy
@@ -279,7 +279,7 @@ pub fn exec_ror(size: Size, shift: u32, value: u32, flags: Flags) -> Answer
     let rest = bits(size) - round(size, k);
     let result = rotate(size, rest, value);
     let last = top(size, result);
-    answer(size, k, result, flags.x, false, (k != 0) & last)
+    shift_answer(size, k, result, flags.x, false, (k != 0) & last)
 }
 
 // ROXL Dx,Dy and ROXL #<data>,Dy. C and X are the one bit, after whole rounds too (9 on a byte). The
@@ -291,7 +291,7 @@ pub fn exec_roxl(size: Size, shift: u32, value: u32, flags: Flags) -> Answer
         return refused(Verdict::BadCount, flags);
     }
     let left = roxl(size, shift, value, flags.x);
-    answer(size, shift, left.value, left.out, false, left.out)
+    shift_answer(size, shift, left.value, left.out, false, left.out)
 }
 
 // ROXR Dx,Dy and ROXR #<data>,Dy
@@ -302,5 +302,5 @@ pub fn exec_roxr(size: Size, shift: u32, value: u32, flags: Flags) -> Answer
         return refused(Verdict::BadCount, flags);
     }
     let right = roxr(size, shift, value, flags.x);
-    answer(size, shift, right.value, right.out, false, right.out)
+    shift_answer(size, shift, right.value, right.out, false, right.out)
 }

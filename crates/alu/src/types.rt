@@ -1,10 +1,11 @@
-// Sizes, flags, verdicts and answers, and the helpers that look at a size. In a contract `top`, `digit`,
+// Sizes, flags, verdicts and answers, and the helpers that more than one module takes. In a contract `top`, `digit`,
 // `accepted`, `refused` and `figure` are the definitions of specs/, not the functions here.
 ghost use mathlib.Core.Path.{_≡_};
 ghost use Rattle.alu.specs.Bits.{bitsOf, low, top, digit};
 ghost use Rattle.alu.specs.ConditionCodes.{resultFlags};
 ghost use Rattle.alu.specs.Answers.{numberOf, classOf, accepted, refused, figure};
 
+// The size of an operation: 8, 16 or 32 bits.
 pub enum Size {
     Byte,
     Word,
@@ -36,7 +37,7 @@ pub struct Answer {
 }
 
 // CHK's class. Over: the value is above the bound. Below: it is below 0. Short: it is below 0 too, and
-// value - bound overflows, which the 68000 traps on the short path of Over. These three are traps.
+// value - bound overflows, which the crate m68k traps on the short path of Over. These three are traps.
 pub enum Check {
     Pass,
     Over,

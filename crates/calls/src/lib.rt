@@ -45,13 +45,13 @@ use alu::types::class;
 use alu::types::number;
 use alu::types::refused;
 
-// A size by its number, if it names one. One `match` with a default of its own: the compiler then sees that a size
-// and its number are the same.
+// A size by its number, if it names one.
 enum Found {
     Is(Size),
     NoSize,
 }
 
+// One `match` with a default of its own: the compiler then sees that a size and its number are the same.
 fn size_of(number: u8) -> Found
     ensures { λ r. ⌜ r ≡ sizeOf number ⌝ }
 {
@@ -170,7 +170,7 @@ fn answer(op: u8, size: Size, src: u32, dst: u32, ccr: u8) -> u64
     }
 }
 
-// Any operation by its number. compare/README.md has the numbers.
+// Any operation by its number: the table `operations` of specs/Packed.
 #[no_mangle]
 pub extern "C" fn alu_call(op: u8, size: u8, src: u32, dst: u32, ccr: u8) -> u64
     ensures { λ r. ⌜ r ≡ callOf op size src dst ccr ⌝ }

@@ -153,6 +153,19 @@ fn counts(t: Tally) -> Tally {
 
 // 6 and 7 on a line in the middle, and on the last.
 fn numbers(t: Tally) -> Tally {
+    let t = missing_numbers(t);
+    let t = copies_onto_itself(t);
+    case(
+        t,
+        b"b of a verb with one number",
+        recipe(2, 32, line(Verb::Neg, 3, 255), plain()),
+        0,
+        0,
+        64,
+    )
+}
+
+fn missing_numbers(t: Tally) -> Tally {
     let t = case(
         t,
         b"6: a source by hand",
@@ -161,14 +174,17 @@ fn numbers(t: Tally) -> Tally {
         19,
         0,
     );
-    let t = case(
+    case(
         t,
         b"6: a target by hand, on the last line",
         recipe(2, 32, plain(), line(Verb::Sub, 0, 255)),
         6,
         33,
         0,
-    );
+    )
+}
+
+fn copies_onto_itself(t: Tally) -> Tally {
     let t = case(
         t,
         b"7: by hand",
@@ -185,21 +201,13 @@ fn numbers(t: Tally) -> Tally {
         33,
         0,
     );
-    let t = case(
+    case(
         t,
         b"6 before 7 by hand",
         recipe(2, 32, line(Verb::Copy, 4, 4), plain()),
         6,
         19,
         0,
-    );
-    case(
-        t,
-        b"b of a verb with one number",
-        recipe(2, 32, line(Verb::Neg, 3, 255), plain()),
-        0,
-        0,
-        64,
     )
 }
 

@@ -141,6 +141,20 @@ fn empty_cases(t: Tally) -> Tally {
     )
 }
 
+// A start past the end: refused with 10, at the start place.
+fn past_end(t: Tally, name: &[u8], count: usize, start: usize, budget: u32) -> Tally {
+    let end = End::Refused(Fault::StartPastEnd, start);
+    case(
+        t,
+        name,
+        add(),
+        count,
+        start,
+        budget,
+        ran(end, state(1, 10, 0), start, 0, 0),
+    )
+}
+
 fn start_cases(t: Tally) -> Tally {
     let t = case(
         t,
@@ -160,54 +174,18 @@ fn start_cases(t: Tally) -> Tally {
         0,
         ran(End::Finished, state(1, 10, 0), 5, 0, 0),
     );
-    let t = case(
-        t,
-        b"10: a start past the end",
-        add(),
-        5,
-        6,
-        100,
-        ran(
-            End::Refused(Fault::StartPastEnd, 6),
-            state(1, 10, 0),
-            6,
-            0,
-            0,
-        ),
-    );
-    case(
+    let t = past_end(t, b"10: a start past the end", 5, 6, 100);
+    past_end(
         t,
         b"10: far past the end, a budget of 0",
-        add(),
         5,
         0xffff_ffff_ffff_ffff,
         0,
-        ran(
-            End::Refused(Fault::StartPastEnd, 0xffff_ffff_ffff_ffff),
-            state(1, 10, 0),
-            0xffff_ffff_ffff_ffff,
-            0,
-            0,
-        ),
     )
 }
 
 fn count_cases(t: Tally) -> Tally {
-    let t = case(
-        t,
-        b"10: past the end of an empty listing",
-        add(),
-        0,
-        1,
-        100,
-        ran(
-            End::Refused(Fault::StartPastEnd, 1),
-            state(1, 10, 0),
-            1,
-            0,
-            0,
-        ),
-    );
+    let t = past_end(t, b"10: past the end of an empty listing", 0, 1, 100);
     let t = case(
         t,
         b"a count above 256 is 256",
@@ -217,20 +195,12 @@ fn count_cases(t: Tally) -> Tally {
         100,
         ran(End::Finished, state(1, 11, 0), 256, 1, 4),
     );
-    case(
+    past_end(
         t,
         b"10: a count above 256, a start past 256",
-        add(),
         1000,
         257,
         100,
-        ran(
-            End::Refused(Fault::StartPastEnd, 257),
-            state(1, 10, 0),
-            257,
-            0,
-            0,
-        ),
     )
 }
 
@@ -280,42 +250,38 @@ fn trap_cases(t: Tally) -> Tally {
     )
 }
 
+// The third step is refused: it is not counted, and is the next place.
+fn refused_third(t: Tally, name: &[u8], third: Step, fault: Fault) -> Tally {
+    let end = End::Refused(fault, 2);
+    case(
+        t,
+        name,
+        third,
+        5,
+        0,
+        100,
+        ran(end, state(1, 12, 0), 2, 2, 8),
+    )
+}
+
 fn refusal_cases(t: Tally) -> Tally {
-    let t = case(
+    let t = refused_third(
         t,
         b"3 in the middle: not counted, the next place is it",
         long(Form::One(OneOp::Clr, D(8))),
-        5,
-        0,
-        100,
-        ran(
-            End::Refused(Fault::NoSuchRegister, 2),
-            state(1, 12, 0),
-            2,
-            2,
-            8,
-        ),
+        Fault::NoSuchRegister,
     );
-    let t = case(
+    let t = refused_third(
         t,
         b"2 in the middle",
-        Step {
-            size: Size::Long,
-            form: Form::Chk(D(0), D(1)),
-        },
-        5,
-        0,
-        100,
-        ran(End::Refused(Fault::NoSuchSize, 2), state(1, 12, 0), 2, 2, 8),
+        long(Form::Chk(D(0), D(1))),
+        Fault::NoSuchSize,
     );
-    let t = case(
+    let t = refused_third(
         t,
         b"1 in the middle",
         long(Form::Shift(ShiftOp::Ror, Count::Small(9), D(1))),
-        5,
-        0,
-        100,
-        ran(End::Refused(Fault::BadSmall, 2), state(1, 12, 0), 2, 2, 8),
+        Fault::BadSmall,
     );
     case(
         t,

@@ -3,3 +3,5 @@ mod Naming
 mod Tables
 mod Turns
 mod Telling
+pub mod Round
+pub mod Determined

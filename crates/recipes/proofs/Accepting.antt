@@ -20,7 +20,7 @@ use Rattle.recipes.specs.declared.types.Refusal.{Refusal}
 use Rattle.recipes.specs.declared.types.Refusal.the-variants.{NoSuchNumber, OntoItself, TooManyLines, WidthLine}
 use Rattle.recipes.specs.declared.reader.LineRead.{LineRead}
 use Rattle.recipes.specs.declared.reader.LineRead.the-variants.{Read, Slip}
-use Rattle.recipes.specs.Recipe.{isNothing, isCopy, target, isWidth, recipeLines, checkedOf, Names, Accepted}
+use Rattle.recipes.specs.Recipe.{isNothing, isCopy, target, isWidth, recipeLines, lineChecked, Names, Accepted}
 use Rattle.recipes.specs.Listing.{unlessSlip, linesPass, tested}
 
 -- ---- lines
@@ -41,8 +41,8 @@ slipIn (Slip k) = isNothing k
 pub no-read : {k : Refusal} {m : Line} → Slip k ≡ Read m → ⊥
 no-read e = false≢true (ap isRead e)
 
-pub checked-names : (n : ℕ) (l m : Line) → checkedOf n l ≡ Read m → Names n l
-unfolding checkedOf
+pub checked-names : (n : ℕ) (l m : Line) → lineChecked n l ≡ Read m → Names n l
+unfolding lineChecked
 checked-names n l m e = go (leb n (l .a)) refl (leb n (target l)) refl (isCopy (l .verb)) refl (eqb (l .a) (target l)) refl e
   where
     go : (t : Bool) → leb n (l .a) ≡ t → (u : Bool) → leb n (target l) ≡ u → (c : Bool) → isCopy (l .verb) ≡ c → (s : Bool) → eqb (l .a) (target l) ≡ s
@@ -55,8 +55,8 @@ checked-names n l m e = go (leb n (l .a)) refl (leb n (target l)) refl (isCopy (
         record { source = leb-false n (l .a) h; goal = leb-false n (target l) i; apart = λ is same. false≢true (sym d ∙ ap isCopy is) }
 
 -- a line that is read past them is read as it stands
-pub checked-same : (n : ℕ) (l m : Line) → checkedOf n l ≡ Read m → l ≡ m
-unfolding checkedOf
+pub checked-same : (n : ℕ) (l m : Line) → lineChecked n l ≡ Read m → l ≡ m
+unfolding lineChecked
 checked-same n l m e = go (leb n (l .a) || leb n (target l)) (isCopy (l .verb) && eqb (l .a) (target l)) e
   where
     go : (t u : Bool) → cond t (Slip NoSuchNumber) (cond u (Slip OntoItself) (Read l)) ≡ Read m → l ≡ m
@@ -65,8 +65,8 @@ checked-same n l m e = go (leb n (l .a) || leb n (target l)) (isCopy (l .verb) &
     go false false e = ap (lineIn l) e
 
 -- and a slip is one: it has a number
-pub checked-slip : (n : ℕ) (l : Line) (k : Refusal) → checkedOf n l ≡ Slip k → isNothing k ≡ false
-unfolding checkedOf
+pub checked-slip : (n : ℕ) (l : Line) (k : Refusal) → lineChecked n l ≡ Slip k → isNothing k ≡ false
+unfolding lineChecked
 checked-slip n l k e = go (leb n (l .a) || leb n (target l)) (isCopy (l .verb) && eqb (l .a) (target l)) e
   where
     go : (t u : Bool) → cond t (Slip NoSuchNumber) (cond u (Slip OntoItself) (Read l)) ≡ Slip k → isNothing k ≡ false
@@ -86,8 +86,8 @@ is-copy Down e = absurd (false≢true e)
 is-copy Up e = absurd (false≢true e)
 
 -- a line that names numbers passes
-pub names-checked : (n : ℕ) (l : Line) → Names n l → checkedOf n l ≡ Read l
-unfolding checkedOf
+pub names-checked : (n : ℕ) (l : Line) → Names n l → lineChecked n l ≡ Read l
+unfolding lineChecked
 names-checked n l h = rw (lt-leb n (l .a) (h .source), lt-leb n (target l) (h .goal)) (go (isCopy (l .verb)) refl)
   where
     go : (c : Bool) → isCopy (l .verb) ≡ c → cond (c && eqb (l .a) (target l)) (Slip OntoItself) (Read l) ≡ Read l
@@ -121,9 +121,9 @@ module _ {R S : Type 0} (P : R → S → Type 0) (refuse : Refusal → ℕ → R
     unfolding linesPass
     lines-agree w line [] go gone h = h tt
     lines-agree w line (l ∷ ls) go gone h =
-        by (checkedOf (8 / w) l) refl (λ m e. lines-agree w (suc line) ls go gone (λ more. h (checked-names (8 / w) l m e, more)))
+        by (lineChecked (8 / w) l) refl (λ m e. lines-agree w (suc line) ls go gone (λ more. h (checked-names (8 / w) l m e, more)))
       where
-        by : (c : LineRead) → checkedOf (8 / w) l ≡ c → ((m : Line) → c ≡ Read m → P (linesPass refuse (8 / w) (suc line) ls go) (linesPass reject (8 / w) (suc line) ls gone))
+        by : (c : LineRead) → lineChecked (8 / w) l ≡ c → ((m : Line) → c ≡ Read m → P (linesPass refuse (8 / w) (suc line) ls go) (linesPass reject (8 / w) (suc line) ls gone))
             → P (unlessSlip refuse c line (linesPass refuse (8 / w) (suc line) ls go)) (unlessSlip reject c line (linesPass reject (8 / w) (suc line) ls gone))
         by (Slip k) e more = alike k line (checked-slip (8 / w) l k e)
         by (Read m) e more = more m refl

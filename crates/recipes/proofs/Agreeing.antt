@@ -26,8 +26,8 @@ use Rattle.recipes.specs.declared.reader.Digit.the-variants.{Is, Bad}
 use Rattle.recipes.specs.declared.reader.VerbRead.{VerbRead}
 use Rattle.recipes.specs.declared.reader.VerbRead.the-variants.{Known, Unknown}
 use Rattle.recipes.specs.Text.{ascii, sameBytes, before, after}
-use Rattle.recipes.specs.Recipe.{isNothing, takesTwo, isWidth, recipeLines, unused, checkedOf, Names, Accepted}
-use Rattle.recipes.specs.Reader.{refusedAt, verbOf, digitOf, onlyDigit, withOne, withTwo, oneOf, twoOf, fieldsOf, thenChecked, lineOf, orSlip, linesOf, widthDigit, widthLine, fromFirst, readOf}
+use Rattle.recipes.specs.Recipe.{isNothing, takesTwo, isWidth, recipeLines, unused, lineChecked, Names, Accepted}
+use Rattle.recipes.specs.Reader.{refusedAt, verbOf, digitOf, onlyDigit, withOne, withTwo, oneField, twoFields, fieldsOf, thenChecked, lineOf, orSlip, linesOf, widthDigit, widthLine, fromFirst, readOf}
 use Rattle.recipes.specs.Listing.{linesPass, tested, listingOf, stepsOf, over, listed, translateOf}
 use Rattle.recipes.proofs.Accepting.{Good, no-read, checked-names, checked-same, checked-slip, names-checked, tests-agree}
 
@@ -47,7 +47,7 @@ two-number v (Is a) Bad = refl
 two-number v Bad (Is b) = refl
 two-number v Bad Bad = refl
 
-pair-number : (v : Verb) (fields : List (List ℕ)) → HasNumber (twoOf v fields)
+pair-number : (v : Verb) (fields : List (List ℕ)) → HasNumber (twoFields v fields)
 pair-number v [] = refl
 pair-number v (f ∷ []) = refl
 pair-number v (f ∷ g ∷ []) = two-number v (digitOf f) (digitOf g)
@@ -57,14 +57,14 @@ words-number : (w : VerbRead) (fields : List (List ℕ)) → HasNumber (fieldsOf
 words-number Unknown fields = refl
 words-number (Known v) fields = go (takesTwo v)
   where
-    go : (t : Bool) → HasNumber (cond t (twoOf v fields) (oneOf v fields))
+    go : (t : Bool) → HasNumber (cond t (twoFields v fields) (oneField v fields))
     go true = pair-number v fields
     go false = one-number v (onlyDigit fields)
 
-checked-number : (n : ℕ) (l : Line) → HasNumber (checkedOf n l)
-checked-number n l = go (checkedOf n l) refl
+checked-number : (n : ℕ) (l : Line) → HasNumber (lineChecked n l)
+checked-number n l = go (lineChecked n l) refl
   where
-    go : (c : LineRead) → checkedOf n l ≡ c → HasNumber c
+    go : (c : LineRead) → lineChecked n l ≡ c → HasNumber c
     go (Slip k) e = checked-slip n l k e
     go (Read m) e = tt
 

@@ -27,7 +27,7 @@ use Rattle.recipes.specs.declared.reader.LineRead.{LineRead}
 use Rattle.recipes.specs.declared.reader.LineRead.the-variants.{Read, Slip}
 use Rattle.recipes.specs.Text.{ascii, sameBytes, before, after}
 use Rattle.recipes.specs.Recipe.{isNothing, takesTwo}
-use Rattle.recipes.specs.Reader.{refusedAt, verbOf, digitOf, onlyDigit, withTwo, oneOf, twoOf, fieldsOf, lineOf, linesOf, widthLine, fromFirst, readOf}
+use Rattle.recipes.specs.Reader.{refusedAt, verbOf, digitOf, onlyDigit, withTwo, oneField, twoFields, fieldsOf, lineOf, linesOf, widthLine, fromFirst, readOf}
 use Rattle.recipes.specs.Printer.{readingPrinted, answerOf}
 use Rattle.recipes.proofs.Texts.{cond-same}
 use Rattle.recipes.proofs.Accepting.{no-read}
@@ -111,7 +111,7 @@ second-bad : (v : Verb) (d : Digit) → withTwo v d Bad ≡ Slip Syntax
 second-bad v (Is a) = refl
 second-bad v Bad = refl
 
-long-two : (v : Verb) (fields : List (List ℕ)) → 5 ≤ behind fields → twoOf v fields ≡ Slip Syntax
+long-two : (v : Verb) (fields : List (List ℕ)) → 5 ≤ behind fields → twoFields v fields ≡ Slip Syntax
 long-two v [] h = refl
 long-two v (f ∷ []) h = refl
 long-two v (f ∷ g ∷ []) h =
@@ -122,7 +122,7 @@ long-fields : (r : VerbRead) (fields : List (List ℕ)) → 5 ≤ behind fields 
 long-fields Unknown fields h = refl
 long-fields (Known v) fields h = go (takesTwo v)
   where
-    go : (t : Bool) → cond t (twoOf v fields) (oneOf v fields) ≡ Slip Syntax
+    go : (t : Bool) → cond t (twoFields v fields) (oneField v fields) ≡ Slip Syntax
     go true = long-two v fields h
     go false = rw (long-one fields (omega arith))
 

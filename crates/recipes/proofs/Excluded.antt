@@ -28,7 +28,7 @@ use Rattle.recipes.specs.declared.types.Verb.the-variants.{Add, Neg}
 use Rattle.recipes.specs.declared.types.Line.{Line}
 use Rattle.recipes.specs.declared.types.RecipeRun.{RecipeRun}
 use Rattle.recipes.specs.Text.{ascii, sameBytes, before, after}
-use Rattle.recipes.specs.Recipe.{isNothing, checkedOf}
+use Rattle.recipes.specs.Recipe.{isNothing, lineChecked}
 use Rattle.recipes.specs.Reader.{verbOf, digitOf, lineOf, linesOf, widthLine, readOf}
 use Rattle.recipes.specs.Listing.{two, risingRest, lineSteps, listingOf}
 use Rattle.recipes.specs.Rule.{numbersOf, registersOf, saidBy, rulesOf}
@@ -56,7 +56,7 @@ refuses-all f meets refuses =
 
 -- 1 is negated to FFFFFFFF
 negated : getD (textRunOf (ascii "width\t1\nneg\t0\n") (loaded 1 0 0 0) .d) 0 0 ≡ 0xffff_ffff
-unfolding textRunOf readOf linesOf lineOf verbOf digitOf widthLine sameBytes before after checkedOf rulesOf registersOf
+unfolding textRunOf readOf linesOf lineOf verbOf digitOf widthLine sameBytes before after lineChecked rulesOf registersOf
 negated = refl
 
 pub does-nothing : (f : List ℕ → State → RecipeRun) → Meeting f → ((text : List ℕ) (s : State) → f text s .d ≡ s .d) → ⊥

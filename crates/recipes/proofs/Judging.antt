@@ -9,7 +9,7 @@ use Rattle.recipes.specs.declared.types.Line.{Line}
 use Rattle.recipes.specs.declared.types.Refusal.{Refusal}
 use Rattle.recipes.specs.declared.types.Refusal.the-variants.{Nothing}
 use Rattle.recipes.specs.declared.reader.LineRead.the-variants.{Read, Slip}
-use Rattle.recipes.specs.Recipe.{unused, checkedOf}
+use Rattle.recipes.specs.Recipe.{unused, lineChecked}
 use Rattle.recipes.specs.Listing.{unlessSlip, linesPass, stepsAt, stepsOf}
 use Rattle.recipes.specs.Making.{told, refused, judgeLines}
 use Rattle.recipes.proofs.Steps.{steps-more}
@@ -17,7 +17,7 @@ use Rattle.recipes.proofs.Steps.{steps-more}
 module _ {R : Type 0} (refuse : Refusal → ℕ → R) (n : ℕ) where
   -- the lines from k on
   pass-on : (line : ℕ) (ls : List Line) (k : ℕ) (go : R) → k < length ls
-      → linesPass refuse n line (drop k ls) go ≡ unlessSlip refuse (checkedOf n (getD ls k unused)) line (linesPass refuse n (suc line) (drop (suc k) ls) go)
+      → linesPass refuse n line (drop k ls) go ≡ unlessSlip refuse (lineChecked n (getD ls k unused)) line (linesPass refuse n (suc line) (drop (suc k) ls) go)
   unfolding linesPass
   pass-on line ls k go h = rw (drop-cons ls k unused h)
 
@@ -40,17 +40,17 @@ passed-none w count lines h = record { there = h; within = omega arith; counted 
 module _ (w count : ℕ) (lines : List Line) (steps k : ℕ) (s : Passed w count lines steps k) where
   -- the next line
   turn : k < count → judgeLines w (take count lines)
-      ≡ unlessSlip refused (checkedOf (8 / w) (getD lines k unused)) (k + 2) (linesPass refused (8 / w) (suc (k + 2)) (drop (suc k) (take count lines)) (told Nothing 0 (stepsOf w (take count lines))))
+      ≡ unlessSlip refused (lineChecked (8 / w) (getD lines k unused)) (k + 2) (linesPass refused (8 / w) (suc (k + 2)) (drop (suc k) (take count lines)) (told Nothing 0 (stepsOf w (take count lines))))
   turn h =
       let long : length (take count lines) ≡ count = length-take-le count lines (s .there) in
       s .rest ∙ pass-on refused (8 / w) (k + 2) (take count lines) k (told Nothing 0 (stepsOf w (take count lines))) (omega arith)
-      ∙ ap (λ (l : Line). unlessSlip refused (checkedOf (8 / w) l) (k + 2) (linesPass refused (8 / w) (suc (k + 2)) (drop (suc k) (take count lines)) (told Nothing 0 (stepsOf w (take count lines)))))
+      ∙ ap (λ (l : Line). unlessSlip refused (lineChecked (8 / w) l) (k + 2) (linesPass refused (8 / w) (suc (k + 2)) (drop (suc k) (take count lines)) (told Nothing 0 (stepsOf w (take count lines)))))
       (getD-take count lines k unused h)
 
-  pub passed-slip : (r : Refusal) → k < count → checkedOf (8 / w) (getD lines k unused) ≡ Slip r → refused r (k + 2) ≡ judgeLines w (take count lines)
+  pub passed-slip : (r : Refusal) → k < count → lineChecked (8 / w) (getD lines k unused) ≡ Slip r → refused r (k + 2) ≡ judgeLines w (take count lines)
   passed-slip r h e = sym (turn h ∙ rw e)
 
-  pub passed-more : (m : Line) (more : ℕ) → w ≤ 4 → k < count → checkedOf (8 / w) (getD lines k unused) ≡ Read m → more ≡ stepsAt (getD lines k unused .verb) * w → more ≤ 8
+  pub passed-more : (m : Line) (more : ℕ) → w ≤ 4 → k < count → lineChecked (8 / w) (getD lines k unused) ≡ Read m → more ≡ stepsAt (getD lines k unused .verb) * w → more ≤ 8
       → Passed w count lines (steps + more) (k + 1)
   passed-more m more small h e is le =
       let a : k + 1 ≡ suc k = omega arith in

@@ -10,7 +10,7 @@ use Rattle.step.specs.declared.steps.Step.{Step}
 use Rattle.recipes.specs.declared.types.Line.{Line}
 use Rattle.recipes.specs.Recipe.{unused, Names, Accepted}
 use Rattle.recipes.specs.Listing.{lineSteps, listingOf, stepsAt, stepsOf, over, blank, blanks}
-use Rattle.recipes.specs.Making.{Ready, Spot}
+use Rattle.recipes.specs.Making.{Layable, StepOfLine}
 use Rattle.recipes.proofs.Steps.{listing-steps, steps-at-most, steps-more, steps-prefix}
 use Rattle.recipes.proofs.Places.{listing-at}
 
@@ -40,7 +40,7 @@ pub record At (w many : ℕ) (lines : List Line) (k j at : ℕ) : Type 0 where
 
 -- the steps before place `at` stand in the slots
 pub record Laid (w count : ℕ) (lines : List Line) (steps : List Step) (k j at : ℕ) : Type 0 where
-  pub ready : Ready w lines count
+  pub ready : Layable w lines count
   pub placed : steps ≡ over (take at (listingOf w lines)) blanks
   pub within : at ≤ count
   pub spot : at < count → At w (ready .many) lines k j at
@@ -61,7 +61,7 @@ some w l h = go (stepsAt (l .verb)) (steps-at-most (l .verb) .0)
     go (suc s) e = omega arith
 
 -- a step's number in its line is small
-pub step-small : (w : ℕ) (l : Line) (j : ℕ) → Spot w l j → j < 8
+pub step-small : (w : ℕ) (l : Line) (j : ℕ) → StepOfLine w l j → j < 8
 step-small w l j h = go (stepsAt (l .verb)) (steps-at-most (l .verb) .1) (h .0) (h .1 .1)
   where
     go : (s : ℕ) → s ≤ 2 → w ≤ 4 → j < s * w → j < 8
@@ -70,7 +70,7 @@ step-small w l j h = go (stepsAt (l .verb)) (steps-at-most (l .verb) .1) (h .0) 
     go (suc (suc zero)) e a b = omega arith
     go (suc (suc (suc s))) e a b = absurd (omega arith)
 
-pub laid-none : (w count : ℕ) (lines : List Line) → Ready w lines count → Laid w count lines blanks 0 0 0
+pub laid-none : (w count : ℕ) (lines : List Line) → Layable w lines count → Laid w count lines blanks 0 0 0
 unfolding stepsOf
 laid-none w count lines r = record { ready = r; placed = refl; within = omega arith; spot = λ h. record { line = first (r .many) h (r .counted); step = some w (getD lines 0 unused) (r .width h .0); place = refl } }
   where
@@ -85,7 +85,7 @@ module _ (w count : ℕ) (lines : List Line) (steps : List Step) (k j at : ℕ) 
   pub line-there : k < length lines
   line-there = let a = here .line in let b = s .ready .held in omega arith
 
-  pub spot-there : Spot w (getD lines k unused) j
+  pub spot-there : StepOfLine w (getD lines k unused) j
   spot-there = (s .ready .width (omega arith) .1, (accepted-at w lines (s .ready .many) k (s .ready .named (omega arith)) (here .line) line-there, here .step))
 
   -- its step is stored

@@ -1,4 +1,5 @@
--- Numbers in the registers: a row of words stored at a number's place changes that number alone, and the numbers determine the registers. Assumes nothing.
+-- Numbers in the registers: a row of words stored at a number's place changes that number alone, and the registers are read back from the numbers
+-- (`registers-back`). Assumes nothing.
 use mathlib.Core.Path.{_≡_, refl, sym, ap, ap₂, _∙_, subst}
 use mathlib.Core.Bool.{Bool}
 use mathlib.Core.List.{List, [], _∷_, _++_}
@@ -162,7 +163,3 @@ registers-back w d full h =
     numbers-back w d (8 / w) 0 h
     ∙ (ap₂ {C = List ℕ} (λ (n p : ℕ). registersFrom n p d) full (zero-mul w)
     ∙ ext-getD 0 (registersFrom 8 0 d) d (sym (h .count)) (λ i t. getD-from 8 0 i d t ∙ ap (λ (j : ℕ). getD d j 0) (zero-add i)))
-
--- so equal numbers are equal registers
-pub numbers-determine : (w : ℕ) (d e : List ℕ) → 8 / w * w ≡ 8 → EightLongs d → EightLongs e → numbersOf w d ≡ numbersOf w e → d ≡ e
-numbers-determine w d e full hd he same = sym (registers-back w d full hd) ∙ (ap (registersOf w) same ∙ registers-back w e full he)

@@ -23,7 +23,7 @@ use Rattle.recipes.specs.declared.types.Translated.{Translated}
 use Rattle.recipes.specs.declared.types.Listing.{Listing}
 use Rattle.recipes.specs.Recipe.{recipeLines, Accepted}
 use Rattle.recipes.specs.Listing.{listingOf, stepsOf, over, listed, translateOf, translated, blanks}
-use Rattle.recipes.specs.Making.{told, refused, judgeOf, Ready, settledOf}
+use Rattle.recipes.specs.Making.{told, refused, judgeOf, Layable, settledOf}
 use Rattle.recipes.proofs.Steps.{listing-steps, listing-prefix, steps-most}
 use Rattle.recipes.proofs.Accepting.{width-is, tests-agree}
 
@@ -33,15 +33,15 @@ few-steps r w c =
     let some : length (recipeLines r) ≡ min (r .count) (length (r .lines)) = length-take (r .count) (r .lines) in
     let most = steps-most (r .width) (recipeLines r) w in omega arith
 
-pub ready : (r : Recipe) → length (r .lines) ≡ 32 → Ready (r .width) (r .lines) (judgeOf r .count)
+pub ready : (r : Recipe) → length (r .lines) ≡ 32 → Layable (r .width) (r .lines) (judgeOf r .count)
 ready r n =
-    tests-agree (λ (t _ : Translated). Ready (r .width) (r .lines) (t .count)) refused refused (λ k line e. none) r (told Nothing 0 (stepsOf (r .width) (recipeLines r)))
+    tests-agree (λ (t _ : Translated). Layable (r .width) (r .lines) (t .count)) refused refused (λ k line e. none) r (told Nothing 0 (stepsOf (r .width) (recipeLines r)))
     (told Nothing 0 (stepsOf (r .width) (recipeLines r))) (λ g. whole (width-is (r .width) (g .width)) (g .few) (g .lines))
   where
-    none : Ready (r .width) (r .lines) 0
+    none : Layable (r .width) (r .lines) 0
     none = record { many = 0; within = omega arith; width = λ h. absurd (omega arith); named = λ h. absurd (omega arith); counted = omega arith; held = omega arith }
 
-    whole : (0 < r .width) × (r .width ≤ 4) → r .count ≤ 32 → Accepted (r .width) (recipeLines r) → Ready (r .width) (r .lines) (stepsOf (r .width) (recipeLines r))
+    whole : (0 < r .width) × (r .width ≤ 4) → r .count ≤ 32 → Accepted (r .width) (recipeLines r) → Layable (r .width) (r .lines) (stepsOf (r .width) (recipeLines r))
     whole w c a = record { many = r .count; within = few-steps r (w .1) c; width = λ h. w; named = λ h. a; counted = omega arith; held = omega arith }
 
 -- the translation that stands where all tests are passed

@@ -1,4 +1,4 @@
--- Demand 3: any accepted recipe, run whole or halted after any step and continued, ends with each number and X exactly as document 01's rule says, after
+-- Demand 3 (docs/PROMISES.md lists the three): any accepted recipe, run whole or halted after any step and continued, ends with each number and X exactly as document 01's rule says, after
 -- add, sub and neg with the flags of the whole number, address registers untouched, steps by document 01's formula. First what is promised of runs of the
 -- listing (proved in proofs/Demand: `demand-3`, `halted-behind`, `one-by-one`, `from-text`), then what `run_recipe` and `run_text` answer. Assumes nothing.
 use Prim.Native.Nat.{ℕ, _≤_, _<_}

@@ -27,7 +27,7 @@ use Rattle.recipes.specs.declared.types.Translated.{Translated}
 use Rattle.recipes.specs.declared.types.Listing.{Listing}
 use Rattle.recipes.specs.declared.reader.LineRead.{LineRead}
 use Rattle.recipes.specs.declared.reader.LineRead.the-variants.{Read, Slip}
-use Rattle.recipes.specs.Recipe.{isCopy, target, isWidth, recipeLines, checkedOf}
+use Rattle.recipes.specs.Recipe.{isCopy, target, isWidth, recipeLines, lineChecked}
 
 -- ---- the steps: all are long, from data register p to data register q; a shift is by #1
 
@@ -148,7 +148,7 @@ module _ {R : Type 0} (refused : Refusal → ℕ → R) where
   -- the lines in turn, in a recipe of n numbers; the first has this text line
   unfoldable pub linesPass : (n line : ℕ) → List Line → (go : R) → R
   linesPass n line [] go = go
-  linesPass n line (l ∷ ls) go = unlessSlip (checkedOf n l) line (linesPass n (suc line) ls go)
+  linesPass n line (l ∷ ls) go = unlessSlip (lineChecked n l) line (linesPass n (suc line) ls go)
 
   abbrev pub tested : Recipe → (go : R) → R
   tested r go =

@@ -1,5 +1,5 @@
--- Terms of private functions' contracts: the search for a byte, writing, the translator's parts, and what a run tells of the flags. No promise of a
--- public function names anything of this page, and a reader of the promises can leave it out. Assumes nothing.
+-- Terms of private functions' contracts: the search for a byte, writing, the translator's parts, and what a run tells of the flags. No contract of a
+-- public function names anything of this page, and a reader can leave it out. Assumes nothing.
 use mathlib.Core.Path.{_≡_}
 use mathlib.Core.Bool.{Bool, true, false, cond}
 use mathlib.Core.List.{List, [], _∷_}
@@ -61,8 +61,8 @@ abbrev pub offsetOf : Verb → (w i : ℕ) → ℕ
 offsetOf v w i = cond (highestFirst v) (w - 1 - i) i
 
 -- j is a step of the line
-abbrev pub Spot : (w : ℕ) → Line → (j : ℕ) → Type 0
-Spot w l j = (w ≤ 4) × (Names (8 / w) l × (j < stepsAt (l .verb) * w))
+abbrev pub StepOfLine : (w : ℕ) → Line → (j : ℕ) → Type 0
+StepOfLine w l j = (w ≤ 4) × (Names (8 / w) l × (j < stepsAt (l .verb) * w))
 
 -- ---- what the translator says
 
@@ -80,7 +80,7 @@ abbrev pub judgeOf : Recipe → Translated
 judgeOf r = tested refused r (told Nothing 0 (stepsOf (r .width) (recipeLines r)))
 
 -- the first `count` steps of the lines can be laid out
-pub record Ready (w : ℕ) (lines : List Line) (count : ℕ) : Type 0 where
+pub record Layable (w : ℕ) (lines : List Line) (count : ℕ) : Type 0 where
   pub many : ℕ
   pub within : count ≤ 256
   pub width : 0 < count → (0 < w) × (w ≤ 4)

@@ -17,7 +17,7 @@ use Rattle.recipes.specs.declared.reader.Digit.the-variants.{Is, Bad}
 use Rattle.recipes.specs.declared.reader.LineRead.{LineRead}
 use Rattle.recipes.specs.declared.reader.LineRead.the-variants.{Read, Slip}
 use Rattle.recipes.specs.Text.{ascii, sameBytes, before, after}
-use Rattle.recipes.specs.Recipe.{takesTwo, isWidth, unused, checkedOf}
+use Rattle.recipes.specs.Recipe.{takesTwo, isWidth, unused, lineChecked}
 
 -- ---- answers
 
@@ -78,23 +78,23 @@ withTwo v (Is a) (Is b) = Read (record { verb = v; a = a; b = b })
 withTwo v (Is a) Bad = Slip Syntax
 withTwo v Bad d = Slip Syntax
 
-abbrev pub oneOf : Verb → List (List ℕ) → LineRead
-oneOf v fields = withOne v (onlyDigit fields)
+abbrev pub oneField : Verb → List (List ℕ) → LineRead
+oneField v fields = withOne v (onlyDigit fields)
 
-abbrev pub twoOf : Verb → List (List ℕ) → LineRead
-twoOf v [] = Slip Syntax
-twoOf v (f ∷ []) = Slip Syntax
-twoOf v (f ∷ g ∷ []) = withTwo v (digitOf f) (digitOf g)
-twoOf v (f ∷ g ∷ h ∷ more) = Slip Syntax
+abbrev pub twoFields : Verb → List (List ℕ) → LineRead
+twoFields v [] = Slip Syntax
+twoFields v (f ∷ []) = Slip Syntax
+twoFields v (f ∷ g ∷ []) = withTwo v (digitOf f) (digitOf g)
+twoFields v (f ∷ g ∷ h ∷ more) = Slip Syntax
 
 -- a word in the verb's place, with the fields after it
 abbrev pub fieldsOf : VerbRead → List (List ℕ) → LineRead
 fieldsOf Unknown fields = Slip Syntax
-fieldsOf (Known v) fields = cond (takesTwo v) (twoOf v fields) (oneOf v fields)
+fieldsOf (Known v) fields = cond (takesTwo v) (twoFields v fields) (oneField v fields)
 
 abbrev pub thenChecked : (n : ℕ) → LineRead → LineRead
 thenChecked n (Slip k) = Slip k
-thenChecked n (Read l) = checkedOf n l
+thenChecked n (Read l) = lineChecked n l
 
 -- a text line in a recipe of n numbers: 5, then 6 and 7
 unfoldable pub lineOf : (n : ℕ) → List ℕ → LineRead

@@ -66,12 +66,13 @@ abbrev pub unused : Line
 unused = record { verb = Clear; a = 0; b = 0 }
 
 -- a line of a recipe of n numbers: 6 where it names a number that isn't there, then 7 where it copies a number onto itself
-unfoldable pub checkedOf : (n : ℕ) → Line → LineRead
-checkedOf n l =
+unfoldable pub lineChecked : (n : ℕ) → Line → LineRead
+lineChecked n l =
     cond (leb n (l .a) || leb n (target l)) (Slip NoSuchNumber)
     (cond (isCopy (l .verb) && eqb (l .a) (target l)) (Slip OntoItself) (Read l))
 
--- the same as a property: a line that passes names numbers, and copies none onto itself (`checked-names` and `names-checked` of proofs/Accepting)
+-- the same as a property: the source and the target of a line that passes are numbers, and it copies none onto itself (`checked-names` and
+-- `names-checked` of proofs/Accepting)
 pub record Names (n : ℕ) (l : Line) : Type 0 where
   pub source : l .a < n
   pub goal : target l < n

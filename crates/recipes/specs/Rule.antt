@@ -1,4 +1,4 @@
--- What a recipe means for whole numbers: document 01, "Recipes", its table of lines. Nothing here knows of steps. `cond test yes no` is a choice; a
+-- What a recipe means for whole numbers: document 01, "Recipes", its table of lines. Nothing here knows of steps. A
 -- subtraction of natural numbers stops at 0, and none below does: a number of w registers is below M = 2 ^ (32 w) (`number-below` of proofs/Numbers).
 -- Assumes nothing.
 use Prim.Native.Nat.{ℕ, zero, suc, _+_, _-_, _*_, _/_, _%_, _^_}

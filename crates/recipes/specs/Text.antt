@@ -1,4 +1,5 @@
--- Texts as lists of bytes: how a byte parts a text, decimal numbers, and what it is to write a text into a lent slice. Assumes nothing.
+-- Texts as lists of bytes: how a byte parts a text, decimal numbers, and what it is to write a text into a lent slice. `cond test yes no` is a choice.
+-- Assumes nothing.
 use Prim.Native.Nat.{ℕ, zero, suc, _+_, _/_, _%_, min}
 use Prim.Native.Char.{code}
 use Prim.Native.String.{String, [] as none, _∷_ as _then_}

@@ -1,5 +1,5 @@
 // Printing a listing or a refusal into a lent slice, and the program's whole answer to a text. A printer answers how
-// many bytes it wrote; what has no room is left off.
+// many bytes it wrote, a `put_..` the next place; what has no room is left off.
 ghost use mathlib.Core.Path.{_≡_};
 ghost use Prim.Native.Nat.{_<_, _^_};
 ghost use mathlib.Core.Bool.{cond};

@@ -6,8 +6,8 @@ ghost use mathlib.Core.List.{[]};
 ghost use lib.ListN.{replicate};
 ghost use Rattle.recipes.specs.declared.reader.VerbRead.the-variants.{Known};
 ghost use Rattle.recipes.specs.Text.{before, after, parts, sameBytes};
-ghost use Rattle.recipes.specs.Recipe.{unused, checkedOf};
-ghost use Rattle.recipes.specs.Reader.{verbOf, digitOf, onlyDigit, oneOf, twoOf, fieldsOf, lineOf, readingOf, refusedAt, linesOf, widthDigit, widthLine, readOf};
+ghost use Rattle.recipes.specs.Recipe.{unused, lineChecked};
+ghost use Rattle.recipes.specs.Reader.{verbOf, digitOf, onlyDigit, oneField, twoFields, fieldsOf, lineOf, readingOf, refusedAt, linesOf, widthDigit, widthLine, readOf};
 use super::text::NEWLINE;
 use super::text::TAB;
 use super::text::first;
@@ -66,6 +66,7 @@ fn verb_of(word: &[u8]) -> VerbRead
     or_verb(word, b"clear", Verb::Clear, found)
 }
 
+// A field that is one digit.
 fn digit_of(field: &[u8]) -> Digit
     ensures { λ r. ⌜ r ≡ digitOf (now (field .entry)) ⌝ }
 {
@@ -94,7 +95,7 @@ fn only_digit(fields: &[u8]) -> Digit
 
 // The line of a verb that takes one number, from the fields after the verb.
 fn read_one(verb: Verb, fields: &[u8]) -> LineRead
-    ensures { λ r. ⌜ r ≡ oneOf verb (parts 9 (now (fields .entry))) ⌝ }
+    ensures { λ r. ⌜ r ≡ oneField verb (parts 9 (now (fields .entry))) ⌝ }
 {
     match only_digit(fields) {
         Digit::Is(a) => LineRead::Read(Line { verb, a, b: 0 }),
@@ -104,7 +105,7 @@ fn read_one(verb: Verb, fields: &[u8]) -> LineRead
 
 // The line of a verb that takes two.
 fn read_two(verb: Verb, fields: &[u8]) -> LineRead
-    ensures { λ r. ⌜ r ≡ twoOf verb (parts 9 (now (fields .entry))) ⌝ }
+    ensures { λ r. ⌜ r ≡ twoFields verb (parts 9 (now (fields .entry))) ⌝ }
 {
     let tab = first(fields, TAB);
     if fields.len() <= tab {
@@ -144,7 +145,7 @@ fn read_fields(row: &[u8]) -> LineRead
 
 // A line as it may stand in a recipe of so many numbers, or why it may not. The translator calls it too.
 pub(crate) fn check_line(numbers: u8, line: Line) -> LineRead
-    ensures { λ r. ⌜ r ≡ checkedOf numbers line ⌝ }
+    ensures { λ r. ⌜ r ≡ lineChecked numbers line ⌝ }
 {
     let verb = line.verb;
     let copies = is_copy(verb);
@@ -158,6 +159,7 @@ pub(crate) fn check_line(numbers: u8, line: Line) -> LineRead
     LineRead::Read(line)
 }
 
+// A text line as a line of a recipe of so many numbers.
 fn read_line(numbers: u8, row: &[u8]) -> LineRead
     ensures { λ r. ⌜ r ≡ lineOf numbers (now (row .entry)) ⌝ }
 {

@@ -5,7 +5,7 @@ ghost use mathlib.Core.Path.{_≡_};
 ghost use Prim.Native.Nat.{_/_, _%_, _*_, _+_, _-_, _<_, _≤_};
 ghost use lib.ListN.{getD, take};
 ghost use Rattle.recipes.specs.Listing.{one, two, shift, firstStep, otherStep, blank, blanks, stepsAt, highestFirst, lineSteps, listingOf, over, translateOf};
-ghost use Rattle.recipes.specs.Making.{refused, registerSteps, offsetOf, judgeOf, judgeLines, Ready, Spot};
+ghost use Rattle.recipes.specs.Making.{refused, registerSteps, offsetOf, judgeOf, judgeLines, Layable, StepOfLine};
 use super::reader::LineRead;
 use super::reader::check_line;
 use super::types::Line;
@@ -155,7 +155,7 @@ fn part_of(verb: Verb, j: u8) -> u8
 
 // Step j of a line.
 fn line_step(width: u8, line: Line, j: u8) -> Step
-    requires { ⌜ Spot width line j ⌝ }
+    requires { ⌜ StepOfLine width line j ⌝ }
     ensures { λ r. ⌜ r ≡ getD (lineSteps width line) j blank ⌝ }
 {
     let verb = line.verb;
@@ -232,7 +232,7 @@ fn judge(recipe: Recipe) -> Translated
 
 // The first `total` steps of the lines, and blank slots behind them.
 fn lay(width: u8, lines: [Line; 32], total: usize) -> [Step; 256]
-    requires { ⌜ Ready width lines total ⌝ }
+    requires { ⌜ Layable width lines total ⌝ }
     ensures { λ r. ⌜ r ≡ over (take total (listingOf width lines)) blanks ⌝ }
 {
     let none = blank();

@@ -85,7 +85,7 @@ pub struct RecipeRun {
     pub clocks: u64,
 }
 
-// The number of a refusal.
+// Document 01's number of a refusal, 0 for none.
 pub fn number(refusal: Refusal) -> u8
     ensures { λ r. ⌜ r ≡ numberOf refusal ⌝ }
 {

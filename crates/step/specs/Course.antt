@@ -1,5 +1,5 @@
--- Terms of private functions' contracts: a step on registers that are lent, and the loop of a run. No promise of a public function names anything of
--- this page, and a reader of the promises can leave it out. Assumes nothing.
+-- Terms of private functions' contracts: a step on registers that are lent, and the loop of a run. No contract of a public function names anything of
+-- this page, and a reader can leave it out. Assumes nothing.
 use mathlib.Core.Path.{_≡_}
 use mathlib.Core.Bool.{Bool, false, cond}
 use mathlib.Core.List.{List}

@@ -11,6 +11,7 @@ pub struct D(pub u8);
 // The number of an address register. Neither can stand for the other.
 pub struct A(pub u8);
 
+// The registers and the flags.
 pub struct State {
     pub d: [u32; 8],
     pub a: [u32; 8],

@@ -55,6 +55,8 @@ use alu::types::Check;
 use alu::types::Flags;
 use alu::types::Size;
 
+// The operations of document 01's forms table, row by row: on two data registers, on an address register, with a small
+// number, on one data register.
 pub enum TwoOp {
     Add,
     Sub,
@@ -548,7 +550,7 @@ fn step_bit(d: &mut [u32; 8], flags: Flags, size: Size, op: BitOp, c: Count, t: 
     }
 }
 
-// CHK Ds,Dt: the bound is in Ds. No register is written
+// CHK Ds,Dt: the bound is in Ds. No register is written.
 fn step_chk(d: &[u32; 8], flags: Flags, size: Size, s: D, t: D) -> Acted
     ensures { λ r. ⌜ ((a : List ℕ) → leaving (now (d .entry)) a r ≡ performForm (held (now (d .entry)) a flags) size (Form.Chk s t)) ⌝ }
 {

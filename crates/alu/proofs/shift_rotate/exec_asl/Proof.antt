@@ -14,7 +14,7 @@ returns c =
     let a = c .before .before .before .args in
     let n = bitsOf (a .size) in
     rw (asl-turns n (a .shift % 64) (start n (a .value) (a .flags .x)), ← c .before .before .lsl .ensures, ← c .before .asl-overflow .ensures)
-    (c .shift-answer .ensures)
+    (c .shifted .ensures)
 
 pub exec-asl-spec : {M : Type 1} → statement M
 exec-asl-spec = tie.close (tie.spec (search needs) (search needs) (search needs) returns)

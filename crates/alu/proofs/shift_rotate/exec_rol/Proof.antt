@@ -17,7 +17,7 @@ returns c =
     let a = c .before .before .before .args in
     let n = bitsOf (a .size) in
     let shown = rol-turns n (start n (a .value) (a .flags .x)) (bits-pos (a .size)) (low-lt n (a .value)) (a .shift % 64) in
-    rw (c .before .rotate .ensures, c .before .before .round .ensures .0) at (c .answer .ensures) ∙
+    rw (c .before .rotate .ensures, c .before .before .round .ensures .0) at (c .shift-answer .ensures) ∙
     rotated-answer (a .size) (a .shift % 64) (a .flags .x) shown
 
 pub exec-rol-spec : {M : Type 1} → statement M

@@ -17,7 +17,7 @@ returns c =
     let a = c .before .before .before .before .before .args in
     let n = bitsOf (a .size) in
     let shown = ror-turns n (start n (a .value) (a .flags .x)) (bits-pos (a .size)) (low-lt n (a .value)) (a .shift % 64) in
-    rw (c .before .top .ensures, c .before .before .rotate .ensures, c .before .before .before .round .ensures .0, c .before .before .before .before .bits .ensures .0) at (c .answer .ensures) ∙
+    rw (c .before .top .ensures, c .before .before .rotate .ensures, c .before .before .before .round .ensures .0, c .before .before .before .before .bits .ensures .0) at (c .shift-answer .ensures) ∙
     rotated-answer (a .size) (a .shift % 64) (a .flags .x) shown
 
 pub exec-ror-spec : {M : Type 1} → statement M

@@ -12,7 +12,7 @@ returns c = rw (lt-ltb _ _ (c .before .if1 .taken)) (c .refused .ensures)
 
 returns-2 : tie.Need-returns-2
 unfolding shiftOf
-returns-2 c = rw (le-ltb _ _ (c .before .before .if1 .left), ← c .before .roxl .ensures) (c .answer .ensures)
+returns-2 c = rw (le-ltb _ _ (c .before .before .if1 .left), ← c .before .roxl .ensures) (c .shift-answer .ensures)
 
 pub exec-roxl-spec : {M : Type 1} → statement M
 exec-roxl-spec = tie.close (tie.spec (search needs) returns (search needs) (search needs) returns-2)

@@ -12,7 +12,7 @@ returns c = rw (lt-ltb _ _ (c .before .if1 .taken)) (c .refused .ensures)
 
 returns-2 : tie.Need-returns-2
 unfolding shiftOf
-returns-2 c = rw (le-ltb _ _ (c .before .before .if1 .left), ← c .before .roxr .ensures) (c .answer .ensures)
+returns-2 c = rw (le-ltb _ _ (c .before .before .if1 .left), ← c .before .roxr .ensures) (c .shift-answer .ensures)
 
 pub exec-roxr-spec : {M : Type 1} → statement M
 exec-roxr-spec = tie.close (tie.spec (search needs) returns (search needs) (search needs) returns-2)

@@ -1,15 +1,16 @@
--- `shift_answer` meets its contract.
+-- `shift_answer` meets its contract: its callees' promises.
 -- Assumes nothing.
-use borrow.Author.Tests.{eq-eqb, ne-eqb}
+use native.Mathlib.Omega.{arith}
+use Rattle.alu.proofs.Bounds.{figure-le}
 use borrow.Author.Needs.{needs}
 use Rattle.alu.proofs.shift_rotate.shift_answer.Statement.{statement}
 use Rattle.alu.proofs.shift_rotate.shift_answer.Tie as tie
 
-returns : tie.Need-returns
-returns c = rw (eq-eqb _ _ (c .before .if1 .taken)) (c .answer .ensures)
+add-clocks : tie.Need-add-clocks
+add-clocks c = rw (c .figure .ensures) (omega (arith, figure-le (c .before .before .args .size) 6 8 8 (omega arith) (omega arith)))
 
-returns-2 : tie.Need-returns-2
-returns-2 c = rw (ne-eqb _ _ (c .before .if1 .left)) (c .answer2 .ensures)
+returns : tie.Need-returns
+returns c = rw (c .before .figure .ensures, c .before .before .result-flags .ensures) at (c .accepted .ensures)
 
 pub shift-answer-spec : {M : Type 1} → statement M
-shift-answer-spec = tie.close (tie.spec (search needs) (search needs) returns returns-2)
+shift-answer-spec = tie.close (tie.spec (search needs) (search needs) (search needs) add-clocks (search needs) returns)

@@ -1,6 +1,6 @@
 -- `recipes::reader::check_line` meets its contract: its tests are the definition's. Assumes nothing.
 use borrow.Author.Needs.{needs}
-use Rattle.recipes.specs.Recipe.{checkedOf}
+use Rattle.recipes.specs.Recipe.{lineChecked}
 use Rattle.recipes.proofs.reader.check_line.Statement.{statement}
 use Rattle.recipes.proofs.reader.check_line.Tie as tie
 
@@ -11,18 +11,18 @@ target-requires : tie.Need-target-requires
 target-requires c κs = search needs
 
 returns : tie.Need-returns
-unfolding checkedOf
+unfolding lineChecked
 returns c = rw (rw (c .before .before .target .ensures) at (c .if1 .taken))
 
 returns-2 : tie.Need-returns-2
-unfolding checkedOf
+unfolding lineChecked
 returns-2 c =
     let i = c .before .before in
     let t = i .before .before in
     rw (rw (t .target .ensures) at (i .if1 .left), rw (t .before .is-copy .ensures, t .target .ensures) at (c .if2 .taken))
 
 returns-3 : tie.Need-returns-3
-unfolding checkedOf
+unfolding lineChecked
 returns-3 c =
     let i = c .before .before in
     let t = i .before .before in

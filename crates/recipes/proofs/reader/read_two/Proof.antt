@@ -6,7 +6,7 @@ use lib.ListN.{take}
 use borrow.Author.Needs.{needs}
 use Rattle.recipes.specs.Text.{parts}
 use Rattle.recipes.specs.Making.{from}
-use Rattle.recipes.specs.Reader.{twoOf, withTwo, digitOf}
+use Rattle.recipes.specs.Reader.{twoFields, withTwo, digitOf}
 use Rattle.recipes.proofs.reader.read_two.Statement.{statement}
 use Rattle.recipes.proofs.reader.read_two.Tie as tie
 
@@ -14,7 +14,7 @@ use Rattle.recipes.proofs.reader.read_two.Tie as tie
 two : (c : tie.Else2)
     → let p = c .before .before .before .before in
     let a = p .before .before .args in
-    twoOf (a .verb) (parts 9 (a .fields .now))
+    twoFields (a .verb) (parts 9 (a .fields .now))
     ≡ withTwo (a .verb) (digitOf (take (p .first .result) (a .fields .now))) (digitOf (from (p .first .result + 1) (a .fields .now)))
 two c =
     let d = c .before .before .before in

@@ -1,0 +1,256 @@
+-- Words there and back: the word of a step names that step, and so a listing that is handed out in words is run as it was made; the word of a line
+-- names that line. Assumes nothing.
+--     word-names, words-name   a step, and a listing of at most 256
+--     line-names               a line
+use Prim.Native.Nat.{ℕ, _+_, _*_, _/_, _%_, _<_, _≤_}
+use mathlib.Core.Path.{_≡_, refl, sym, _∙_}
+use mathlib.Core.List.{List, [], _∷_, map}
+use lib.Dec.{lit<}
+use native.Mathlib.Omega.{arith}
+use lib.ListN.{length, getD, take, length-map}
+use lib.Seq.{take-all}
+use Rattle.alu.specs.declared.types.Size.{Size}
+use Rattle.alu.specs.declared.types.Size.the-variants.{Byte, Word, Long}
+use Rattle.step.specs.declared.steps.TwoOp.{TwoOp}
+use Rattle.step.specs.declared.steps.TwoOp.the-variants.{Add, Sub, Cmp, Addx, Subx}
+use Rattle.step.specs.declared.steps.AddressOp.{AddressOp}
+use Rattle.step.specs.declared.steps.AddressOp.the-variants.{Adda, Suba, Cmpa}
+use Rattle.step.specs.declared.steps.OneOp.{OneOp}
+use Rattle.step.specs.declared.steps.OneOp.the-variants.{Clr, Neg, Negx, Not, Ext}
+use Rattle.alu.specs.declared.shift_rotate.ShiftOp.{ShiftOp}
+use Rattle.alu.specs.declared.shift_rotate.ShiftOp.the-variants.{Asl, Asr, Lsl, Lsr, Rol, Ror, Roxl, Roxr}
+use Rattle.alu.specs.declared.bit_manip.BitOp.{BitOp}
+use Rattle.alu.specs.declared.bit_manip.BitOp.the-variants.{Btst, Bset, Bclr, Bchg}
+use Rattle.step.specs.declared.steps.QuickOp.the-variants.{Addq, Subq}
+use Rattle.step.specs.declared.steps.Register.the-variants as Register
+use Rattle.step.specs.declared.steps.Count.the-variants as Count
+use Rattle.step.specs.declared.steps.Form.{Form}
+use Rattle.step.specs.declared.steps.Form.the-variants as Form
+use Rattle.step.specs.declared.steps.Step.{Step}
+use Rattle.recipes.specs.declared.types.Verb.{Verb}
+use Rattle.recipes.specs.declared.types.Verb.the-variants as Verb
+use Rattle.recipes.specs.declared.types.Line.{Line}
+use Rattle.recipe_calls.specs.declared.words.Operation.the-variants.{Unknown, Two, Address, One, Shift, Bit}
+use Rattle.recipe_calls.specs.declared.words.Made.the-variants.{Is}
+use Rattle.recipe_calls.specs.declared.words.Named.the-variants as Named
+use Rattle.recipe_calls.specs.Words.{operations, madeOf, sizedOf, stepOf, firstOf, stepWord, verbs, verbNumber, lineOf, lineWord}
+use Rattle.recipe_calls.specs.Words.{twoNumber, addressNumber, oneNumber, shiftNumber, bitNumber, sizeNumber, operationNumber, sourceKind, sourceNumber, destinationNumber}
+use Rattle.recipe_calls.proofs.Naming.{form-named, line-named}
+
+-- ---- bytes: what stands in one comes out of it
+
+byte-0 : (a b c d e : ℕ) → a < 256 → (a + b * 256 + c * 65536 + d * 16777216 + e * 4294967296) / 1 % 256 ≡ a
+byte-0 a b c d e h = omega arith
+
+byte-1 : (a b c d e : ℕ) → a < 256 → b < 256 → (a + b * 256 + c * 65536 + d * 16777216 + e * 4294967296) / 256 % 256 ≡ b
+byte-1 a b c d e h i = omega arith
+
+byte-2 : (a b c d e : ℕ) → a < 256 → b < 256 → c < 256 → (a + b * 256 + c * 65536 + d * 16777216 + e * 4294967296) / 65536 % 256 ≡ c
+byte-2 a b c d e h i j = omega arith
+
+byte-3 : (a b c d e : ℕ) → a < 256 → b < 256 → c < 256 → d < 256 → (a + b * 256 + c * 65536 + d * 16777216 + e * 4294967296) / 16777216 % 256 ≡ d
+byte-3 a b c d e h i j k = omega arith
+
+byte-4 : (a b c d e : ℕ) → a < 256 → b < 256 → c < 256 → d < 256 → e < 256 → (a + b * 256 + c * 65536 + d * 16777216 + e * 4294967296) / 4294967296 % 256 ≡ e
+byte-4 a b c d e h i j k l = omega arith
+
+-- ---- what stands in the table for an operation
+
+two-found : (op : TwoOp) → getD operations (twoNumber op) Unknown ≡ Two op
+two-found Add = refl
+two-found Sub = refl
+two-found Cmp = refl
+two-found Addx = refl
+two-found Subx = refl
+
+address-found : (op : AddressOp) → getD operations (addressNumber op) Unknown ≡ Address op
+address-found Adda = refl
+address-found Suba = refl
+address-found Cmpa = refl
+
+one-found : (op : OneOp) → getD operations (oneNumber op) Unknown ≡ One op
+one-found Clr = refl
+one-found Neg = refl
+one-found Negx = refl
+one-found Not = refl
+one-found Ext = refl
+
+shift-found : (op : ShiftOp) → getD operations (shiftNumber op) Unknown ≡ Shift op
+shift-found Asl = refl
+shift-found Asr = refl
+shift-found Lsl = refl
+shift-found Lsr = refl
+shift-found Rol = refl
+shift-found Ror = refl
+shift-found Roxl = refl
+shift-found Roxr = refl
+
+bit-found : (op : BitOp) → getD operations (bitNumber op) Unknown ≡ Bit op
+bit-found Btst = refl
+bit-found Bset = refl
+bit-found Bclr = refl
+bit-found Bchg = refl
+
+form-found : (form : Form) → madeOf (getD operations (operationNumber form) Unknown) (sourceKind form) (sourceNumber form) (destinationNumber form) ≡ Is form
+form-found (Form.Two op p q) = rw (two-found op)
+form-found (Form.Address op (Register.Data p) q) = rw (address-found op)
+form-found (Form.Address op (Register.Address p) q) = rw (address-found op)
+form-found (Form.Quick Addq k (Register.Data q)) = refl
+form-found (Form.Quick Addq k (Register.Address q)) = refl
+form-found (Form.Quick Subq k (Register.Data q)) = refl
+form-found (Form.Quick Subq k (Register.Address q)) = refl
+form-found (Form.One op q) = rw (one-found op)
+form-found (Form.Shift op (Count.Small k) q) = rw (shift-found op)
+form-found (Form.Shift op (Count.Data k) q) = rw (shift-found op)
+form-found (Form.Bit op (Count.Small k) q) = rw (bit-found op)
+form-found (Form.Bit op (Count.Data k) q) = rw (bit-found op)
+form-found (Form.Chk p q) = refl
+
+size-found : (size : Size) (form : Form) → sizedOf (sizeNumber size) form ≡ record { size = size; form = form }
+size-found Byte form = refl
+size-found Word form = refl
+size-found Long form = refl
+
+-- ---- the three bytes that are no operand's number
+
+two-small : (op : TwoOp) → twoNumber op < 256
+two-small Add = lit< tt
+two-small Sub = lit< tt
+two-small Cmp = lit< tt
+two-small Addx = lit< tt
+two-small Subx = lit< tt
+
+address-small : (op : AddressOp) → addressNumber op < 256
+address-small Adda = lit< tt
+address-small Suba = lit< tt
+address-small Cmpa = lit< tt
+
+one-small : (op : OneOp) → oneNumber op < 256
+one-small Clr = lit< tt
+one-small Neg = lit< tt
+one-small Negx = lit< tt
+one-small Not = lit< tt
+one-small Ext = lit< tt
+
+shift-small : (op : ShiftOp) → shiftNumber op < 256
+shift-small Asl = lit< tt
+shift-small Asr = lit< tt
+shift-small Lsl = lit< tt
+shift-small Lsr = lit< tt
+shift-small Rol = lit< tt
+shift-small Ror = lit< tt
+shift-small Roxl = lit< tt
+shift-small Roxr = lit< tt
+
+bit-small : (op : BitOp) → bitNumber op < 256
+bit-small Btst = lit< tt
+bit-small Bset = lit< tt
+bit-small Bclr = lit< tt
+bit-small Bchg = lit< tt
+
+operation-small : (form : Form) → operationNumber form < 256
+operation-small (Form.Two op p q) = two-small op
+operation-small (Form.Address op p q) = address-small op
+operation-small (Form.Quick Addq k (Register.Data q)) = lit< tt
+operation-small (Form.Quick Addq k (Register.Address q)) = lit< tt
+operation-small (Form.Quick Subq k (Register.Data q)) = lit< tt
+operation-small (Form.Quick Subq k (Register.Address q)) = lit< tt
+operation-small (Form.One op q) = one-small op
+operation-small (Form.Shift op k q) = shift-small op
+operation-small (Form.Bit op k q) = bit-small op
+operation-small (Form.Chk p q) = lit< tt
+
+kind-small : (form : Form) → sourceKind form < 256
+kind-small (Form.Two op p q) = lit< tt
+kind-small (Form.Address op (Register.Data p) q) = lit< tt
+kind-small (Form.Address op (Register.Address p) q) = lit< tt
+kind-small (Form.Quick op k q) = lit< tt
+kind-small (Form.One op q) = lit< tt
+kind-small (Form.Shift op (Count.Small k) q) = lit< tt
+kind-small (Form.Shift op (Count.Data k) q) = lit< tt
+kind-small (Form.Bit op (Count.Small k) q) = lit< tt
+kind-small (Form.Bit op (Count.Data k) q) = lit< tt
+kind-small (Form.Chk p q) = lit< tt
+
+size-small : (size : Size) → sizeNumber size < 256
+size-small Byte = lit< tt
+size-small Word = lit< tt
+size-small Long = lit< tt
+
+-- ---- steps
+
+-- the operands' numbers are bytes: every step of the code has them so
+pub record Bytes (k : Step) : Type 0 where
+  pub source : sourceNumber (k .form) < 256
+  pub destination : destinationNumber (k .form) < 256
+
+pub word-names : (k : Step) → Bytes k → stepOf (stepWord k) ≡ k
+unfolding stepWord
+word-names k h =
+    let f = k .form in
+    let o = operation-small f in
+    let z = size-small (k .size) in
+    let w = kind-small f in
+    let s = h .source in
+    let a = operationNumber f in
+    let b = sizeNumber (k .size) in
+    let c = sourceKind f in
+    let d = sourceNumber f in
+    let e = destinationNumber f in
+    sym
+    (form-named (stepWord k) (sym (byte-0 a b c d e o)) refl (sym (byte-2 a b c d e o z w)) (sym (byte-3 a b c d e o z w s)) (sym (byte-4 a b c d e o z w s (h .destination)))
+    refl (form-found f) (sym (byte-1 a b c d e o z)))
+    ∙ size-found (k .size) f
+
+-- a listing's steps
+abbrev pub AllBytes : List Step → Type 0
+AllBytes [] = Unit {0}
+AllBytes (k ∷ ks) = Bytes k × AllBytes ks
+
+map-names : (l : List Step) → AllBytes l → map stepOf (map stepWord l) ≡ l
+map-names [] h = refl
+map-names (k ∷ ks) h = rw (word-names k (h .0), map-names ks (h .1))
+
+pub words-name : (l : List Step) → AllBytes l → length l ≤ 256 → firstOf (map stepWord l) ≡ l
+words-name l h few = let all : length (map stepWord l) ≤ 256 = rw (length-map l stepWord) few in rw (take-all 256 (map stepWord l) all) (map-names l h)
+
+-- ---- lines
+
+verb-found : (v : Verb) → getD verbs (verbNumber v) Named.NoVerb ≡ Named.Is v
+verb-found Verb.Clear = refl
+verb-found Verb.Copy = refl
+verb-found Verb.Add = refl
+verb-found Verb.Sub = refl
+verb-found Verb.Neg = refl
+verb-found Verb.Not = refl
+verb-found Verb.Halve = refl
+verb-found Verb.Down = refl
+verb-found Verb.Up = refl
+
+verb-small : (v : Verb) → verbNumber v < 256
+verb-small Verb.Clear = lit< tt
+verb-small Verb.Copy = lit< tt
+verb-small Verb.Add = lit< tt
+verb-small Verb.Sub = lit< tt
+verb-small Verb.Neg = lit< tt
+verb-small Verb.Not = lit< tt
+verb-small Verb.Halve = lit< tt
+verb-small Verb.Down = lit< tt
+verb-small Verb.Up = lit< tt
+
+low : (a b c : ℕ) → a < 256 → (a + b * 256 + c * 65536) / 1 % 256 ≡ a
+low a b c h = omega arith
+
+middle : (a b c : ℕ) → a < 256 → b < 256 → (a + b * 256 + c * 65536) / 256 % 256 ≡ b
+middle a b c h i = omega arith
+
+high : (a b c : ℕ) → a < 256 → b < 256 → c < 256 → (a + b * 256 + c * 65536) / 65536 % 256 ≡ c
+high a b c h i j = omega arith
+
+pub line-names : (l : Line) → l .a < 256 → l .b < 256 → lineOf (lineWord l) ≡ l
+unfolding lineWord
+line-names l h k =
+    let v = verb-small (l .verb) in
+    let n = verbNumber (l .verb) in
+    sym
+    (line-named (lineWord l) (sym (low n (l .a) (l .b) v)) refl (verb-found (l .verb)) (sym (middle n (l .a) (l .b) v h)) (sym (high n (l .a) (l .b) v h k)))
