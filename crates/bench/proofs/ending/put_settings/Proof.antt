@@ -1,0 +1,56 @@
+-- `ending::put_settings` is safe and ends: the register's number stays within 8, and the slice keeps its length. Assumes nothing.
+use borrow.Author.Needs.{needs}
+use Prim.Native.Nat.{_≤_, _-_}
+use mathlib.Core.Path.{_≡_}
+use lib.ListN.{length}
+use Rattle.bench.proofs.ending.put_settings.Statement.{statement}
+use Rattle.bench.proofs.ending.put_settings.Tie as tie
+
+abbrev Inv-loop : tie.InvT-loop
+Inv-loop out₀ letter registers next₀ r₀ out next r = (r ≤ 8) × (length out ≡ length out₀)
+
+abbrev μ-loop : tie.MeasureT-loop
+μ-loop out₀ letter registers next₀ r₀ out next r = 8 - r
+
+loop-holds : tie.Need-loop-holds Inv-loop μ-loop
+loop-holds c = search needs
+
+mul-put-setting : tie.Need-mul-put-setting Inv-loop μ-loop
+mul-put-setting c = search needs
+
+array-read-put-setting : tie.Need-array-read-put-setting Inv-loop μ-loop
+array-read-put-setting c = search needs
+
+put-setting-requires : tie.Need-put-setting-requires Inv-loop μ-loop
+put-setting-requires c κs = search needs
+
+add-r : tie.Need-add-r Inv-loop μ-loop
+add-r c = search needs
+
+loop-less : tie.Need-loop-less Inv-loop μ-loop
+loop-less c = search needs
+
+loop-again : tie.Need-loop-again Inv-loop μ-loop
+loop-again c = search needs
+
+same-length : tie.Need-same-length Inv-loop μ-loop
+same-length c = search needs
+
+returns : tie.Need-returns Inv-loop μ-loop
+returns c = search needs
+
+pub put-settings-spec : {M : Type 1} → statement M
+put-settings-spec =
+    tie.close
+    (tie.spec
+    Inv-loop
+    μ-loop
+    loop-holds
+    mul-put-setting
+    array-read-put-setting
+    put-setting-requires
+    add-r
+    loop-less
+    loop-again
+    same-length
+    returns)

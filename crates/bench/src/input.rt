@@ -1,0 +1,37 @@
+// Standard input, read as the program `recipe` reads it.
+use libc::STDIN_FILENO;
+ghost use Prim.Native.Nat.{_≤_};
+ghost use lib.ListN.{length};
+ghost use Rattle.io.specs.Counts.{Counts};
+
+// So many bytes were read; `ok` is false where a read failed.
+pub(crate) struct Input {
+    pub n: usize,
+    pub ok: bool,
+}
+
+// One read into `text` from `at` on. (`io::read_full` does not tell an error from the input's end.)
+fn read_some(text: &mut [u8], at: usize) -> isize
+    requires { ⌜ at ≤ length (now text) ⌝ }
+{
+    libc::read(STDIN_FILENO, &mut text[at..])
+}
+
+// Reads until `text` is full or the input ends, in as many pieces as it comes.
+pub(crate) fn read_text(text: &mut [u8]) -> Input
+    ensures { λ r. ⌜ Counts (r .n) (now (text .exit)) ⌝ }
+{
+    let mut at = 0;
+    while at < text.len() {
+        let got = read_some(text, at);
+        if got < 0 {
+            return Input { n: at, ok: false };
+        }
+        let n = io::count(got, &text[at..]);
+        if n == 0 {
+            break;
+        }
+        at += n;
+    }
+    Input { n: at, ok: true }
+}

@@ -1,0 +1,52 @@
+// Which line of a recipe a step comes from, and which number the line changes.
+ghost use Prim.Native.Nat.{_≤_};
+use recipes::types::Line;
+use recipes::types::Recipe;
+use recipes::types::Verb;
+
+// The steps that a line takes.
+fn steps_of(width: u8, verb: Verb) -> usize
+    ensures { λ r. ⌜ r ≤ 510 ⌝ }
+{
+    let steps = width as usize;
+    if let Verb::Copy = verb {
+        2 * steps
+    } else {
+        steps
+    }
+}
+
+// The recipe line, from 0, that the step at a place comes from: the last of 32 where it is none before.
+pub(crate) fn line_at(recipe: Recipe, place: usize) -> usize
+    ensures { λ r. ⌜ r ≤ 31 ⌝ }
+{
+    let lines = recipe.lines;
+    let mut end = 0;
+    let mut k = 0;
+    while k < 31 {
+        let line = lines[k];
+        let verb = line.verb;
+        end += steps_of(recipe.width, verb);
+        if place < end {
+            return k;
+        }
+        k += 1;
+    }
+    k
+}
+
+// The number that a line changes.
+pub(crate) fn target(line: Line) -> u8 {
+    let verb = line.verb;
+    match verb {
+        Verb::Clear => line.a,
+        Verb::Copy => line.b,
+        Verb::Add => line.b,
+        Verb::Sub => line.b,
+        Verb::Neg => line.a,
+        Verb::Not => line.a,
+        Verb::Halve => line.a,
+        Verb::Down => line.a,
+        Verb::Up => line.a,
+    }
+}

@@ -1,0 +1,71 @@
+// Shows a recipe's listing running. The recipe's text is the first 1,024 bytes of standard input; the words that the
+// program is started with give the registers and flags, the start place and the number of steps (words.rt). Standard
+// output gets a table for people (table.rt) or plain rows (rows.rt), and of a refused recipe its refusal. Where a word is
+// not understood, or reading or writing fails, standard error says so.
+mod course;
+mod ending;
+mod input;
+mod lines;
+mod numbers;
+mod pen;
+mod rows;
+mod table;
+mod words;
+
+use input::read_text;
+use libc::STDOUT_FILENO;
+use pen::Pen;
+use pen::at_start;
+use pen::within;
+use recipes::printer::print_refusal;
+use recipes::reader::read;
+use recipes::translator::translate_array;
+use recipes::types::Recipe;
+use recipes::types::number;
+use words::Asked;
+use words::read_words;
+
+// A recipe that was read is always translated.
+fn put_run(out: &mut [u8], asked: Asked, text: &[u8], recipe: Recipe) -> Pen {
+    let made = translate_array(recipe);
+    let pen = at_start();
+    if asked.rows {
+        rows::put_run(out, pen, asked, made)
+    } else {
+        table::put_run(out, pen, asked, text, recipe, made)
+    }
+}
+
+// The whole answer to a text. An array of 65,536 bytes has room for any: a table has at most 260 rows of 151 bytes, and less
+// than 1,000 bytes above and below them; plain rows are at most 257 of 158 bytes.
+fn answer(out: &mut [u8], asked: Asked, text: &[u8]) -> usize {
+    let reading = read(text);
+    let refusal = reading.refusal;
+    let recipe = reading.recipe;
+    if number(refusal) != 0 {
+        return print_refusal(refusal, reading.line, out);
+    }
+    let pen = put_run(out, asked, text, recipe);
+    pen.at
+}
+
+fn main() {
+    let words = read_words();
+    if !words.understood {
+        return;
+    }
+    let asked = words.asked;
+    let mut text = [0u8; 1024];
+    let input = read_text(&mut text);
+    if !input.ok {
+        os::fail(b"bench: standard input");
+        return;
+    }
+    let n = input.n;
+    let mut out = [0u8; 65536];
+    let m = answer(&mut out, asked, &text[..n]);
+    let m = within(m, &out);
+    if !io::write_all(STDOUT_FILENO, &out[..m]) {
+        os::fail(b"bench: standard output");
+    }
+}

@@ -1,0 +1,150 @@
+// The numbers of a recipe, by width: which registers they are, and their whole value in decimal.
+ghost use Prim.Native.Nat.{_<_, _≤_};
+use crate::pen::BLANK;
+use crate::pen::Pen;
+use crate::pen::put;
+use crate::pen::put_byte;
+use crate::pen::put_decimal;
+use crate::pen::put_hex;
+
+// A word divided by 10, with what the higher words left.
+struct Share {
+    quotient: u32,
+    rest: u64,
+}
+
+// A number divided by 10: its quotient, and its last digit.
+struct Tenth {
+    quotient: [u32; 4],
+    digit: u8,
+}
+
+fn wide(x: u8) -> usize
+    ensures { λ r. ⌜ r < 256 ⌝ }
+{
+    x as usize
+}
+
+// How many numbers there are at a width of 1, 2 or 4.
+pub(crate) fn count_of(width: u8) -> u8
+    ensures { λ r. ⌜ r ≤ 8 ⌝ }
+{
+    if width == 1 {
+        8
+    } else if width == 2 {
+        4
+    } else {
+        2
+    }
+}
+
+// The number of the lowest register of number k.
+fn lowest_of(width: u8, k: u8) -> usize
+    ensures { λ r. ⌜ r < 1024 ⌝ }
+{
+    if width == 1 {
+        wide(k)
+    } else if width == 2 {
+        2 * wide(k)
+    } else {
+        4 * wide(k)
+    }
+}
+
+// Word i of the number from register `low` on; 0 past its highest.
+fn word_of(width: u8, d: [u32; 8], low: usize, i: u8) -> u32
+    requires { ⌜ low < 1024 ⌝ }
+{
+    let r = low + wide(i);
+    if width <= i {
+        return 0;
+    }
+    if r < 8 { d[r] } else { 0 }
+}
+
+// The words of number k, the lowest first.
+fn words_of(width: u8, d: [u32; 8], k: u8) -> [u32; 4] {
+    let low = lowest_of(width, k);
+    [
+        word_of(width, d, low, 0),
+        word_of(width, d, low, 1),
+        word_of(width, d, low, 2),
+        word_of(width, d, low, 3),
+    ]
+}
+
+// The names of the registers of number k, the highest first, a blank before each.
+pub(crate) fn put_names(out: &mut [u8], pen: Pen, width: u8, k: u8) -> Pen {
+    let low = lowest_of(width, k);
+    let mut next = pen;
+    let mut i = width;
+    while 0 < i {
+        i -= 1;
+        next = put(out, next, b" D");
+        next = put_decimal(out, next, (low + wide(i)) as u64);
+    }
+    next
+}
+
+// The words of number k, the highest first, a blank before each.
+pub(crate) fn put_words(out: &mut [u8], pen: Pen, width: u8, d: [u32; 8], k: u8) -> Pen {
+    let low = lowest_of(width, k);
+    let mut next = pen;
+    let mut i = width;
+    while 0 < i {
+        i -= 1;
+        next = put_byte(out, next, BLANK);
+        next = put_hex(out, next, word_of(width, d, low, i));
+    }
+    next
+}
+
+fn divided_word(above: u64, word: u32) -> Share
+    requires { ⌜ above < 10 ⌝ }
+    ensures { λ r. ⌜ r .rest < 10 ⌝ }
+{
+    let all = above * 0x1_0000_0000 + word as u64;
+    Share {
+        quotient: (all / 10) as u32,
+        rest: all % 10,
+    }
+}
+
+fn divided(words: [u32; 4]) -> Tenth
+    ensures { λ r. ⌜ r .digit < 10 ⌝ }
+{
+    let third = divided_word(0, words[3]);
+    let second = divided_word(third.rest, words[2]);
+    let first = divided_word(second.rest, words[1]);
+    let last = divided_word(first.rest, words[0]);
+    Tenth {
+        quotient: [
+            last.quotient,
+            first.quotient,
+            second.quotient,
+            third.quotient,
+        ],
+        digit: last.rest as u8,
+    }
+}
+
+fn is_zero(words: [u32; 4]) -> bool {
+    (words[0] == 0) & (words[1] == 0) & (words[2] == 0) & (words[3] == 0)
+}
+
+// The whole value of number k. 2^128 - 1 has 39 digits.
+pub(crate) fn put_value(out: &mut [u8], pen: Pen, width: u8, d: [u32; 8], k: u8) -> Pen {
+    let mut digits = [0u8; 39];
+    let mut words = words_of(width, d, k);
+    let mut i = 39;
+    while 0 < i {
+        let t = divided(words);
+        i -= 1;
+        digits[i] = b'0' + t.digit;
+        words = t.quotient;
+        if is_zero(words) {
+            break;
+        }
+    }
+    put(out, pen, &digits[i..])
+}
