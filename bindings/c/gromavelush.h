@@ -2,13 +2,19 @@
  * Gromavelush for C: operations, recipes, listings and runs of the 68000, proved. bindings/build makes the archive
  * target/native/libgromavelush.a, which has these functions and needs nothing but the C library's memcpy and memset.
  *
- * Every function takes every number, ends, and keeps no pointer. What the language cannot check, and a caller must keep:
- *   - a pointer is to as many elements as its parameter says, aligned for its type, and all of them are set;
- *   - a row that a function writes (it is not const) overlaps no other row of the same call, and no other thread reads or writes it
- *     meanwhile; rows that are only read may overlap each other and be shared;
- *   - a row of length 0 still has a pointer that is not null;
- *   - a row has at most 2^63 - 1 bytes.
- * The functions use at most 64 KiB of stack. They are safe to call from several threads on rows of their own.
+ * Every function takes every number, ends, calls nothing of the caller's, and keeps nothing between calls, no pointer either. What
+ * the language cannot check, and a caller must keep:
+ *   - a pointer is to as many elements as its parameter says, aligned for its type, and all of them are set, those too that are only
+ *     written;
+ *   - a row that a function writes (it is not const) overlaps no other row of the same call, and nothing else reads or writes it
+ *     meanwhile; rows that are only read may overlap each other and be shared, and nothing writes them meanwhile; so a row lies in no
+ *     mapped file that another writes or shortens;
+ *   - a row of length 0 still has a pointer that is not null, and aligned;
+ *   - a row has at most 2^63 - 1 bytes;
+ *   - there are 16 KiB of stack left: bindings/c/stack.c measures at most 6,760 bytes on x86-64 and 6,688 on Arm, and the loader may
+ *     want some at the first call of memcpy.
+ * They are safe to call from several threads, and from a signal handler, on rows of their own. Numbers are the machine's own, 64-bit
+ * Linux on x86-64 or Arm; a word's bytes are counted by value, not by address.
  */
 #ifndef GROMAVELUSH_H
 #define GROMAVELUSH_H
@@ -52,8 +58,8 @@ enum gro_source { GRO_NONE = 0, GRO_SMALL = 1, GRO_DATA = 2, GRO_ADDRESS = 3 };
 
 /*
  * Runs the first 256 steps of a listing from place start, at most budget steps. d, a and flags are the state, before and after.
- * told: 0 the end, 1 the trap's class (1 Over, 2 Short, 3 Below) or the refusal's number, 2 the place of either, 3 the next place,
- * 4 the steps done, 5 the sum of their clock figures.
+ * told: 0 the end, 1 the trap's class (1 Over, 2 Short, 3 Below) or the refusal's number, 2 the place of either (both 0 where it
+ * finished or spent its budget), 3 the next place, 4 the steps done, 5 the sum of their clock figures.
  */
 enum gro_end { GRO_FINISHED = 0, GRO_BUDGET = 1, GRO_TRAPPED = 2, GRO_REFUSED = 3 };
 void listing_run(const uint64_t *listing, size_t length, uint32_t d[8], uint32_t a[8], uint8_t *flags, size_t start, uint32_t budget,
@@ -61,7 +67,9 @@ void listing_run(const uint64_t *listing, size_t length, uint32_t d[8], uint32_t
 
 /*
  * Prints the first 256 steps of a listing as the program recipe does, with this width in the first line. Answers how many bytes it
- * wrote; what has no room is left off. 20,480 bytes are enough for any listing.
+ * wrote, with no 0 behind them; what has no room is left off. 20,480 bytes are enough for any listing. The last line has the sum of
+ * the figures that the steps have where all registers and flags are 0: those of a recipe's steps are the same everywhere, a shift by
+ * a register or a CHK may have another in a run, and a step that is refused has 0. A word that names no step prints as CHK B D0 D0.
  */
 size_t listing_print(uint8_t width, const uint64_t *listing, size_t length, uint8_t *out, size_t room);
 
@@ -81,9 +89,9 @@ enum gro_verb {
 void recipe_read(const uint8_t *text, size_t length, uint32_t lines[32], uint64_t told[4]);
 
 /*
- * Translates the first count lines, at most 32, into a listing of length slots. told: 0 the refusal number, 1 its text line (line k
- * counts as k + 2; 0 for 8 and 9), 2 the number of steps. The slots past the steps stay; a refusal leaves all. An unknown verb is
- * refused with 5. 256 slots are enough for any recipe.
+ * Translates the first count of the 32 lines into a listing of length slots. told: 0 the refusal number (0: none), 1 its text line
+ * (1 for the width, k + 2 for line k counted from 0, and 0 for 8 and 9), 2 the number of steps. The slots past the steps stay; a
+ * refusal leaves all. A count above 32 is refused with 8, an unknown verb with 5. 256 slots are enough for any recipe.
  */
 void recipe_translate(uint8_t width, size_t count, const uint32_t lines[32], uint64_t *listing, size_t length, uint64_t told[3]);
 
@@ -91,9 +99,9 @@ void recipe_translate(uint8_t width, size_t count, const uint32_t lines[32], uin
 size_t recipe_answer(const uint8_t *text, size_t length, uint8_t *out, size_t room);
 
 /*
- * Reads a recipe text and runs it on a state. told: 0 the refusal number, 1 its text line, 2 the flags that are promised, 3 the steps,
- * 4 the sum of their clock figures. After add, sub and neg, and with no line, all five flags are promised, else X alone; a flag that is
- * not promised is left 0. A refused text leaves the state.
+ * Reads a recipe text and runs it on a state. told: 0 the refusal number (0: none), 1 its text line, 2 the flags that are promised,
+ * 3 the steps, 4 the sum of their clock figures. After add, sub and neg, and with no line, all five flags are promised, else X alone;
+ * a flag that is not promised is left 0. A refused text leaves the state.
  */
 void recipe_run(const uint8_t *text, size_t length, uint32_t d[8], uint32_t a[8], uint8_t *flags, uint64_t told[5]);
 

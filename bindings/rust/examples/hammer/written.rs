@@ -1,0 +1,140 @@
+//! Texts, sound and damaged: read, answered into rows of any length, run.
+
+use crate::cases::Random;
+use crate::raw::{self, Registers, Row};
+use crate::recipes::{self, Recipe, Refused, Verb};
+use crate::steps::{Flags, State};
+use crate::tally::Tally;
+use crate::texts::KINDS;
+use crate::tuned;
+use gromavelush as safe;
+
+pub fn some_state(random: &mut Random) -> State {
+    let bits = random.bits();
+    let flag = |at: u32| bits >> at & 1 == 1;
+    State {
+        d: std::array::from_fn(|_| random.number()),
+        a: std::array::from_fn(|_| random.number()),
+        flags: Flags { x: flag(0), n: flag(1), z: flag(2), v: flag(3), c: flag(4) },
+    }
+}
+
+pub fn ccr(flags: Flags) -> u8 {
+    [flags.x, flags.n, flags.z, flags.v, flags.c].into_iter().fold(0, |sum, flag| sum * 2 + u8::from(flag))
+}
+
+pub fn safe_state(state: &State) -> safe::State {
+    safe::State { d: state.d, a: state.a, flags: safe::Flags::of(ccr(state.flags)) }
+}
+
+/// A line as the library packs it.
+pub fn line_word(line: &recipes::Line) -> u32 {
+    u32::from_le_bytes([line.verb as u8, line.a, line.b, 0])
+}
+
+fn try_reading(text: &[u8], want: &Result<Recipe, Refused>, tally: &mut Tally) {
+    let mut lines = Row::marked(32, 0xA5A5_A5A5);
+    let raw::Told(told, whole) = raw::read(text, &mut lines);
+    let (refused, recipe) = match want {
+        Ok(recipe) => (Refused { number: 0, line: 0 }, *recipe),
+        Err(refused) => (*refused, Recipe::empty(1)),
+    };
+    let should = [refused.number.into(), refused.line as u64, recipe.width.into(), recipe.count as u64];
+    let words: Vec<u32> = recipe.lines.iter().map(line_word).collect();
+    tally.called("recipe_read");
+    tally.refused(refused.number.into());
+    tally.agrees(told == should && lines.get() == words && whole && lines.is_intact(), || {
+        format!("recipe_read of \"{}\": {told:?}, wanted {should:?}", text.escape_ascii())
+    });
+    let got = safe::read(text).map(|recipe| (recipe.width, recipe.to_string()));
+    let got = got.map_err(|refused| (refused.refusal.number(), refused.line));
+    let sound = || (recipe.width, String::from_utf8_lossy(text).into_owned());
+    let should = if want.is_ok() { Ok(sound()) } else { Err((refused.number, refused.line)) };
+    tally.called("read");
+    tally.agrees(got == should, || format!("read of \"{}\": {got:?}", text.escape_ascii()));
+}
+
+/// Into a row that is too short by some bytes, or just long enough, or long enough for any.
+pub fn some_room(random: &mut Random, needed: usize) -> usize {
+    match random.below(4) {
+        0 => random.below(needed + 1),
+        1 => needed,
+        2 => needed + random.below(9),
+        _ => 20_480,
+    }
+}
+
+/// Whether a row holds as much of the text as there is room for, and nothing else.
+pub fn holds(out: &Row<u8>, wrote: usize, text: &str, mark: u8) -> bool {
+    let most = text.len().min(out.get().len());
+    let (written, rest) = out.get().split_at(most);
+    wrote == most
+        && written == &text.as_bytes()[..most]
+        && rest.iter().all(|&byte| byte == mark)
+        && out.is_intact()
+}
+
+fn try_answer(random: &mut Random, text: &[u8], tally: &mut Tally) {
+    let want = recipes::answer(text);
+    let mark = random.bits() as u8 | 0x80;
+    let mut out = Row::marked(some_room(random, want.len()), mark);
+    let wrote = raw::answer(text, &mut out);
+    tally.called("recipe_answer");
+    tally.agrees(holds(&out, wrote, &want, mark), || {
+        let shown = String::from_utf8_lossy(out.get());
+        format!("recipe_answer of \"{}\": {wrote} bytes {shown:?}", text.escape_ascii())
+    });
+    tally.called("answer");
+    let got = safe::answer(text);
+    tally.agrees(got == want, || format!("answer of \"{}\": {got:?}", text.escape_ascii()));
+}
+
+/// What document 01 says of a recipe on a state: all that is told, and the state after it.
+fn ran(recipe: &Result<Recipe, Refused>, mut state: State) -> ([u64; 5], State, u8) {
+    let recipe = match recipe {
+        Ok(recipe) => recipe,
+        Err(refused) => {
+            return ([refused.number.into(), refused.line as u64, 31, 0, 0], state, ccr(state.flags));
+        }
+    };
+    let listing = recipes::translate(recipe, 256).unwrap_or_default();
+    let ran = tuned::run(&listing, &mut state, 0, u32::MAX);
+    let last = recipe.lines[..recipe.count].last().map(|line| line.verb);
+    let promised = if matches!(last, None | Some(Verb::Add | Verb::Sub | Verb::Neg)) { 31 } else { 16 };
+    ([0, 0, promised, ran.steps.into(), ran.clocks], state, ccr(state.flags) & promised as u8)
+}
+
+fn try_run(random: &mut Random, text: &[u8], recipe: &Result<Recipe, Refused>, tally: &mut Tally) {
+    let before = some_state(random);
+    let (should, after, flags) = ran(recipe, before);
+    let dirt = random.bits() as u8 & 0xE0;
+    let mut on = Registers::of(&before.d, &before.a, ccr(before.flags) | dirt);
+    let raw::Told(told, whole) = raw::run_recipe(text, &mut on);
+    let left = (on.d.get(), on.a.get(), on.flags.get()) == (&after.d, &after.a, &[flags]);
+    tally.called("recipe_run");
+    tally.agrees(told == should && left && whole && on.is_intact(), || {
+        format!("recipe_run of \"{}\": {told:?}, wanted {should:?}", text.escape_ascii())
+    });
+    let mut state = safe_state(&before);
+    let got = safe::run_text(text, &mut state);
+    let left = (state.d, state.a, state.flags.ccr()) == (after.d, after.a, flags);
+    let agrees = match got {
+        Ok(run) => {
+            let all = run.flags.map_or(16, |_| 31);
+            let same = run.flags.is_none_or(|told| told.ccr() == flags);
+            run.x == (flags & 16 != 0) && same && [0, 0, all, run.steps.into(), run.clocks] == should
+        }
+        Err(refused) => [refused.refusal.number().into(), refused.line as u64, 31, 0, 0] == should,
+    };
+    tally.called("run_text");
+    tally.agrees(agrees && left, || format!("run_text of \"{}\": {got:?}", text.escape_ascii()));
+}
+
+pub fn try_one(random: &mut Random, tally: &mut Tally) {
+    let kind = random.below(KINDS.len());
+    let text = KINDS[kind].text(random).into_boxed_slice();
+    let recipe = recipes::read(&text);
+    try_reading(&text, &recipe, tally);
+    try_answer(random, &text, tally);
+    try_run(random, &text, &recipe, tally);
+}

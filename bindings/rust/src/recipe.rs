@@ -1,0 +1,303 @@
+//! Counter recipes: read, translated, printed and run.
+
+use crate::listing::{Listing, MOST_STEPS};
+use crate::state::State;
+use crate::step::Step;
+use crate::sys;
+use crate::types::{Flags, Refusal};
+use std::error::Error;
+use std::fmt::{self, Display, Formatter};
+
+/// As many lines as a recipe may have.
+pub const MOST_LINES: usize = 32;
+
+/// Bytes enough for what is printed of any listing.
+const ROOM: usize = 20_480;
+
+/// What a recipe line does. M is 2 to the power of 32 times the width.
+#[derive(Clone, Copy, PartialEq, Eq, Hash, Debug)]
+pub enum Verb {
+    /// `clear a`: a = 0.
+    Clear,
+    /// `copy a b`: b = a.
+    Copy,
+    /// `add a b`: b = (b + a) mod M.
+    Add,
+    /// `sub a b`: b = (b - a) mod M.
+    Sub,
+    /// `neg a`: a = -a mod M.
+    Neg,
+    /// `not a`: a = M - 1 - a.
+    Not,
+    /// `halve a`: the signed half, rounded down.
+    Halve,
+    /// `down a`: a divided by 2, rounded down.
+    Down,
+    /// `up a`: a = 2a mod M.
+    Up,
+}
+
+impl Verb {
+    /// The nine verbs. A verb's place here is its number in the library's words.
+    pub const ALL: [Verb; 9] = [
+        Verb::Clear,
+        Verb::Copy,
+        Verb::Add,
+        Verb::Sub,
+        Verb::Neg,
+        Verb::Not,
+        Verb::Halve,
+        Verb::Down,
+        Verb::Up,
+    ];
+
+    /// Whether it takes two numbers.
+    pub fn takes_two(self) -> bool {
+        matches!(self, Verb::Copy | Verb::Add | Verb::Sub)
+    }
+}
+
+/// The verb's word in a recipe text.
+impl Display for Verb {
+    fn fmt(&self, f: &mut Formatter) -> fmt::Result {
+        f.write_str(match self {
+            Verb::Clear => "clear",
+            Verb::Copy => "copy",
+            Verb::Add => "add",
+            Verb::Sub => "sub",
+            Verb::Neg => "neg",
+            Verb::Not => "not",
+            Verb::Halve => "halve",
+            Verb::Down => "down",
+            Verb::Up => "up",
+        })
+    }
+}
+
+/// A line of a recipe. A verb that takes one number has it in `a`, and `b` doesn't count.
+#[derive(Clone, Copy, PartialEq, Eq, Hash, Debug)]
+pub struct Line {
+    /// What it does.
+    pub verb: Verb,
+    /// The only number, or the first.
+    pub a: u8,
+    /// The second number.
+    pub b: u8,
+}
+
+impl Line {
+    fn word(self) -> u32 {
+        u32::from_le_bytes([self.verb as u8, self.a, self.b, 0])
+    }
+
+    fn of(word: u32) -> Line {
+        let [verb, a, b, _] = word.to_le_bytes();
+        Line { verb: Verb::ALL.get(usize::from(verb)).copied().unwrap_or(Verb::Clear), a, b }
+    }
+}
+
+/// The line as a recipe text has it, without its byte 10.
+impl Display for Line {
+    fn fmt(&self, f: &mut Formatter) -> fmt::Result {
+        let Line { verb, a, b } = self;
+        if verb.takes_two() { write!(f, "{verb}\t{a}\t{b}") } else { write!(f, "{verb}\t{a}") }
+    }
+}
+
+/// A recipe, read or made by hand. What is wrong with one made by hand the translator tells.
+#[derive(Clone, PartialEq, Eq, Hash, Debug)]
+pub struct Recipe {
+    /// The width of its numbers: 1, 2 or 4 registers.
+    pub width: u8,
+    /// Its lines, at most 32.
+    pub lines: Vec<Line>,
+}
+
+/// The recipe's text.
+///
+/// ```
+/// use gromavelush::{Line, Recipe, Verb, read};
+///
+/// let recipe = Recipe { width: 2, lines: vec![Line { verb: Verb::Add, a: 0, b: 1 }] };
+/// assert_eq!(recipe.to_string(), "width\t2\nadd\t0\t1\n");
+/// assert_eq!(read(recipe.to_string().as_bytes()), Ok(recipe));
+/// ```
+impl Display for Recipe {
+    fn fmt(&self, f: &mut Formatter) -> fmt::Result {
+        writeln!(f, "width\t{}", self.width)?;
+        self.lines.iter().try_for_each(|line| writeln!(f, "{line}"))
+    }
+}
+
+/// Why a recipe is refused, and where.
+#[derive(Clone, Copy, PartialEq, Eq, Hash, Debug)]
+pub struct Refused {
+    /// Why.
+    pub refusal: Refusal,
+    /// The text line, counted from 1: the width is on line 1, a recipe's first line on line 2. The translator's refusals 8
+    /// and 9 have line 0.
+    pub line: usize,
+}
+
+impl Refused {
+    /// A refusal and its line as the library tells them.
+    fn told(number: u64, line: u64) -> Result<(), Refused> {
+        match Refusal::told(number) {
+            Some(refusal) => Err(Refused { refusal, line: line as usize }),
+            None => Ok(()),
+        }
+    }
+}
+
+impl Display for Refused {
+    fn fmt(&self, f: &mut Formatter) -> fmt::Result {
+        match self.line {
+            0 => self.refusal.fmt(f),
+            line => write!(f, "line {line}: {}", self.refusal),
+        }
+    }
+}
+
+impl Error for Refused {}
+
+/// Reads a recipe text: `width`, a tab and 1, 2 or 4 on the first line, then up to 32 lines of a verb and its numbers. Fields
+/// are parted by one tab, and each line ends with byte 10.
+///
+/// ```
+/// use gromavelush::{Refusal, read};
+///
+/// assert_eq!(read(b"width\t2\nneg\t1\n")?.lines.len(), 1);
+/// let refused = read(b"width\t4\nadd\t0\t2\n").unwrap_err();
+/// assert_eq!((refused.refusal, refused.line), (Refusal::NoSuchNumber, 2));
+/// # Ok::<(), gromavelush::Refused>(())
+/// ```
+pub fn read(text: &[u8]) -> Result<Recipe, Refused> {
+    let (words, [number, line, width, count]) = sys::recipe_read(text);
+    Refused::told(number, line)?;
+    let lines = words.into_iter().take(count as usize).map(Line::of).collect();
+    Ok(Recipe { width: width as u8, lines })
+}
+
+/// Translates into words: how many steps.
+fn translate_words(recipe: &Recipe, words: &mut [u64]) -> Result<usize, Refused> {
+    let mut lines = [0; MOST_LINES];
+    for (word, line) in lines.iter_mut().zip(&recipe.lines) {
+        *word = line.word();
+    }
+    let [number, line, steps] = sys::recipe_translate(recipe.width, recipe.lines.len(), &lines, words);
+    Refused::told(number, line)?;
+    Ok(steps as usize)
+}
+
+/// The listing of a recipe.
+///
+/// ```
+/// use gromavelush::{Line, Recipe, Verb, translate};
+///
+/// let recipe = Recipe { width: 2, lines: vec![Line { verb: Verb::Neg, a: 1, b: 0 }] };
+/// let listing = translate(&recipe)?;
+/// assert_eq!(listing.steps()[1].to_string(), "NEGX\tL\t-\tD3");
+/// # Ok::<(), gromavelush::Refused>(())
+/// ```
+pub fn translate(recipe: &Recipe) -> Result<Listing, Refused> {
+    let mut words = [0; MOST_STEPS];
+    let steps = translate_words(recipe, &mut words)?;
+    Ok(Listing::written(words.get(..steps).unwrap_or(&words)))
+}
+
+/// Translates a recipe into slots, and answers how many steps it has. The slots past them stay; a refusal leaves all. Too
+/// few slots are refused with 9.
+///
+/// ```
+/// use gromavelush::{D, Form, OneOp, Refusal, Size, Step, read, translate_into};
+///
+/// let blank = Step { size: Size::Long, form: Form::One(OneOp::Clr, D(7)) };
+/// let mut slots = [blank; 3];
+/// let recipe = read(b"width\t2\nneg\t1\n")?;
+/// assert_eq!(translate_into(&recipe, &mut slots)?, 2);
+/// assert_eq!(slots[2], blank);
+/// let refused = translate_into(&recipe, &mut slots[..1]).unwrap_err();
+/// assert_eq!((refused.refusal, refused.line), (Refusal::NoSpace, 0));
+/// # Ok::<(), gromavelush::Refused>(())
+/// ```
+pub fn translate_into(recipe: &Recipe, slots: &mut [Step]) -> Result<usize, Refused> {
+    let mut words = [0; MOST_STEPS];
+    let length = slots.len().min(MOST_STEPS);
+    let row = words.get_mut(..length).unwrap_or_default();
+    let steps = translate_words(recipe, row)?;
+    for (slot, &word) in slots.iter_mut().zip(&words).take(steps) {
+        *slot = Step::of(word);
+    }
+    Ok(steps)
+}
+
+/// What is printed into a row of bytes.
+fn printed(print: impl FnOnce(&mut [u8]) -> usize) -> String {
+    let mut out = vec![0; ROOM];
+    let length = print(&mut out);
+    out.truncate(length);
+    String::from_utf8_lossy(&out).into_owned()
+}
+
+/// A listing as the program `recipe` prints it, with this width in the first line.
+///
+/// The sum in the last line is of the figures that the steps have with all registers and flags 0. A step of a recipe has
+/// the same figure always; a shift by a data register or a CHK may take other clocks in a run, and a step that is refused
+/// there has 0.
+///
+/// ```
+/// use gromavelush::{print, read, translate};
+///
+/// let recipe = read(b"width\t2\nadd\t0\t1\n")?;
+/// let listing = translate(&recipe)?;
+/// assert_eq!(print(2, &listing), "width\t2\t2\n0\tADD\tL\tD0\tD2\n1\tADDX\tL\tD1\tD3\nclocks\t8\n");
+/// # Ok::<(), gromavelush::Refused>(())
+/// ```
+pub fn print(width: u8, listing: &Listing) -> String {
+    printed(|out| sys::listing_print(width, listing.words(), out))
+}
+
+/// What the program `recipe` prints for a text: the listing, or `refused`, number and line.
+///
+/// ```
+/// assert_eq!(gromavelush::answer(b"width\t1\n"), "width\t1\t0\nclocks\t0\n");
+/// assert_eq!(gromavelush::answer(b""), "refused\t4\t1\n");
+/// ```
+pub fn answer(text: &[u8]) -> String {
+    printed(|out| sys::recipe_answer(text, out))
+}
+
+/// What came of a recipe that was run.
+#[derive(Clone, Copy, PartialEq, Eq, Hash, Debug)]
+pub struct RecipeRun {
+    /// X after it.
+    pub x: bool,
+    /// All five flags where document 01 promises them: after add, sub and neg, those of the whole number, and with no line
+    /// as they were. After another last line X alone is promised.
+    pub flags: Option<Flags>,
+    /// The steps.
+    pub steps: u32,
+    /// The sum of their clock figures.
+    pub clocks: u64,
+}
+
+/// Reads a recipe text and runs it on a state. In the state's flags one that isn't promised is left clear. A refused text
+/// leaves the state.
+///
+/// ```
+/// use gromavelush::{State, run_text};
+///
+/// let mut state = State::default();
+/// state.set_number(2, 0, 0x1_FFFF_FFFF)?;
+/// state.set_number(2, 1, 0x2_0000_0004)?;
+/// let ran = run_text(b"width\t2\nsub\t0\t1\n", &mut state)?;
+/// assert_eq!(state.number(2, 1), Some(5));
+/// assert_eq!((ran.x, ran.steps, ran.clocks), (false, 2, 8));
+/// # Ok::<(), Box<dyn std::error::Error>>(())
+/// ```
+pub fn run_text(text: &[u8], state: &mut State) -> Result<RecipeRun, Refused> {
+    let [number, line, promised, steps, clocks] = state.lent(|registers| sys::recipe_run(text, registers));
+    Refused::told(number, line)?;
+    let flags = (promised == 31).then_some(state.flags);
+    Ok(RecipeRun { x: state.flags.x, flags, steps: steps as u32, clocks })
+}

@@ -1,0 +1,128 @@
+//! The library's C functions, made safe. `bindings/c/gromavelush.h` says what each one does, and what its caller must
+//! keep. `unsafe` stands here alone.
+
+mod c {
+    unsafe extern "C" {
+        /// Numbers in, a number out: it reads and writes no memory of ours, hence safe.
+        pub safe fn alu_call(operation: u8, size: u8, src: u32, dst: u32, flags: u8) -> u64;
+        pub fn listing_run(
+            listing: *const u64,
+            length: usize,
+            d: *mut u32,
+            a: *mut u32,
+            flags: *mut u8,
+            start: usize,
+            budget: u32,
+            told: *mut u64,
+        );
+        pub fn listing_print(
+            width: u8,
+            listing: *const u64,
+            length: usize,
+            out: *mut u8,
+            room: usize,
+        ) -> usize;
+        pub fn recipe_read(text: *const u8, length: usize, lines: *mut u32, told: *mut u64);
+        pub fn recipe_translate(
+            width: u8,
+            count: usize,
+            lines: *const u32,
+            listing: *mut u64,
+            length: usize,
+            told: *mut u64,
+        );
+        pub fn recipe_answer(text: *const u8, length: usize, out: *mut u8, room: usize) -> usize;
+        pub fn recipe_run(
+            text: *const u8,
+            length: usize,
+            d: *mut u32,
+            a: *mut u32,
+            flags: *mut u8,
+            told: *mut u64,
+        );
+    }
+}
+
+pub use c::alu_call;
+
+/// The eight data registers, the eight address registers, the flags.
+pub struct Registers<'a> {
+    pub d: &'a mut [u32; 8],
+    pub a: &'a mut [u32; 8],
+    pub flags: &'a mut u8,
+}
+
+pub fn listing_run(listing: &[u64], on: Registers, start: usize, budget: u32) -> [u64; 6] {
+    let mut told = [0; 6];
+    // SAFETY: each pointer is of a reference or a slice, so it is aligned, not null, and to as many set elements as the
+    // function takes there; the lengths are the slices' own. The rows that it writes are borrowed mutably or are ours,
+    // so they overlap nothing. It keeps no pointer.
+    unsafe {
+        c::listing_run(
+            listing.as_ptr(),
+            listing.len(),
+            on.d.as_mut_ptr(),
+            on.a.as_mut_ptr(),
+            on.flags,
+            start,
+            budget,
+            told.as_mut_ptr(),
+        );
+    }
+    told
+}
+
+pub fn listing_print(width: u8, listing: &[u64], out: &mut [u8]) -> usize {
+    // SAFETY: both rows are slices, handed over with their own lengths; `out` is borrowed mutably, so they don't overlap.
+    // It keeps no pointer.
+    unsafe { c::listing_print(width, listing.as_ptr(), listing.len(), out.as_mut_ptr(), out.len()) }
+}
+
+pub fn recipe_read(text: &[u8]) -> ([u32; 32], [u64; 4]) {
+    let (mut lines, mut told) = ([0; 32], [0; 4]);
+    // SAFETY: `text` is a slice, handed over with its own length; the two rows that are written are ours and have the
+    // lengths that the function takes. It keeps no pointer.
+    unsafe { c::recipe_read(text.as_ptr(), text.len(), lines.as_mut_ptr(), told.as_mut_ptr()) };
+    (lines, told)
+}
+
+pub fn recipe_translate(width: u8, count: usize, lines: &[u32; 32], listing: &mut [u64]) -> [u64; 3] {
+    let mut told = [0; 3];
+    // SAFETY: `lines` has the 32 words that the function takes, whatever `count` is; `listing` is handed over with its
+    // own length and is borrowed mutably, and `told` is ours, so no row that is written overlaps another. It keeps no
+    // pointer.
+    unsafe {
+        c::recipe_translate(
+            width,
+            count,
+            lines.as_ptr(),
+            listing.as_mut_ptr(),
+            listing.len(),
+            told.as_mut_ptr(),
+        );
+    }
+    told
+}
+
+pub fn recipe_answer(text: &[u8], out: &mut [u8]) -> usize {
+    // SAFETY: both rows are slices, handed over with their own lengths; `out` is borrowed mutably, so they don't overlap.
+    // It keeps no pointer.
+    unsafe { c::recipe_answer(text.as_ptr(), text.len(), out.as_mut_ptr(), out.len()) }
+}
+
+pub fn recipe_run(text: &[u8], on: Registers) -> [u64; 5] {
+    let mut told = [0; 5];
+    // SAFETY: `text` is a slice, handed over with its own length; the rows that are written are borrowed mutably or are
+    // ours, so they overlap nothing, and have the lengths that the function takes. It keeps no pointer.
+    unsafe {
+        c::recipe_run(
+            text.as_ptr(),
+            text.len(),
+            on.d.as_mut_ptr(),
+            on.a.as_mut_ptr(),
+            on.flags,
+            told.as_mut_ptr(),
+        );
+    }
+    told
+}

@@ -1,0 +1,220 @@
+//! Every refusal of document 01 is met here, with its line or place, and changes nothing.
+
+use gromavelush::*;
+
+use crate::common::{EXAMPLE, Random, copies};
+
+const STATE: State = State {
+    d: [1, 2, 3, 4, 5, 6, 7, 8],
+    a: [9, 10, 11, 12, 13, 14, 15, 16],
+    flags: Flags { x: true, n: false, z: true, v: false, c: true },
+};
+
+/// A text's refusal by the reader, by what is printed, and by a run that leaves the state.
+fn refused(text: &[u8], number: u8, line: usize) {
+    let refused = read(text).expect_err("it is refused");
+    assert_eq!((refused.refusal.number(), refused.line), (number, line), "{}", text.escape_ascii());
+    assert_eq!(answer(text), format!("refused\t{number}\t{line}\n"));
+    let mut state = STATE;
+    assert_eq!(run_text(text, &mut state), Err(refused));
+    assert_eq!(state, STATE);
+}
+
+/// A step's refusal, at place 1 behind a step that is done.
+fn step_refused(size: Size, form: Form, number: u8) {
+    let first = Step { size: Size::Long, form: Form::One(OneOp::Not, D(0)) };
+    let listing = Listing::new(&[first, Step { size, form }]).expect("two steps");
+    let mut state = STATE;
+    let ran = run(&listing, &mut state, 0, 9);
+    let End::Refused { refusal, place } = ran.end else { panic!("{:?}", ran.end) };
+    assert_eq!((refusal.number(), place, ran.next, ran.steps, ran.clocks), (number, 1, 1, 1, 6));
+    assert_eq!(state.d[0], !1);
+    assert_eq!((&state.d[1..], state.a), (&STATE.d[1..], STATE.a));
+}
+
+#[test]
+fn number_1_small_numbers_and_counts() {
+    for shift in [64, 65, u32::MAX] {
+        assert_eq!(exec_roxl(Size::Byte, shift, 1, STATE.flags), Err(Refusal::BadSmall));
+        assert_eq!(exec_roxr(Size::Long, shift, 1, STATE.flags), Err(Refusal::BadSmall));
+    }
+    for small in [0, 9, 255] {
+        step_refused(Size::Long, Form::Quick(QuickOp::Addq, small, Register::Data(D(1))), 1);
+        step_refused(Size::Word, Form::Quick(QuickOp::Subq, small, Register::Address(A(1))), 1);
+        step_refused(Size::Byte, Form::Shift(ShiftOp::Rol, Count::Small(small), D(1)), 1);
+    }
+    step_refused(Size::Long, Form::Bit(BitOp::Bset, Count::Small(32), D(1)), 1);
+}
+
+#[test]
+fn number_2_sizes() {
+    let (byte, word, long, flags) = (Size::Byte, Size::Word, Size::Long, STATE.flags);
+    let on_address = [exec_adda, exec_suba, exec_cmpa, exec_addq_address, exec_subq_address];
+    for function in on_address {
+        assert_eq!(function(byte, 1, 2, flags), Err(Refusal::NoSuchSize));
+    }
+    for function in [exec_btst, exec_bset, exec_bclr, exec_bchg] {
+        assert_eq!(function(byte, 1, 2, flags), Err(Refusal::NoSuchSize));
+        assert_eq!(function(word, 1, 2, flags), Err(Refusal::NoSuchSize));
+    }
+    assert_eq!(exec_ext(byte, 2, flags), Err(Refusal::NoSuchSize));
+    assert_eq!(exec_chk(byte, 1, 2, flags), Err(Refusal::NoSuchSize));
+    assert_eq!(exec_chk(long, 1, 2, flags), Err(Refusal::NoSuchSize));
+    step_refused(byte, Form::Address(AddressOp::Cmpa, Register::Data(D(1)), A(2)), 2);
+    step_refused(byte, Form::Quick(QuickOp::Addq, 0, Register::Address(A(2))), 2);
+    step_refused(byte, Form::One(OneOp::Ext, D(1)), 2);
+    step_refused(word, Form::Bit(BitOp::Btst, Count::Small(99), D(1)), 2);
+    step_refused(long, Form::Chk(D(1), D(2)), 2);
+}
+
+#[test]
+fn number_2_words_that_name_no_step() {
+    let mut random = Random(2);
+    for _ in 0..20_000 {
+        let word = random.bits() & random.bits() & 0xFF_FFFF_FFFF;
+        let step = Step::try_from(word);
+        let ran = run_words(&[word], &mut STATE.clone(), 0, 9);
+        let small_source = word & !0xFF00_0000;
+        if step.is_err() && Step::try_from(small_source).is_err() {
+            assert_eq!(ran.end, End::Refused { refusal: Refusal::NoSuchSize, place: 0 }, "{word:x}");
+        }
+    }
+}
+
+#[test]
+fn number_3_registers() {
+    for at in [8, 9, 255] {
+        step_refused(Size::Long, Form::Two(TwoOp::Add, D(at), D(1)), 3);
+        step_refused(Size::Long, Form::Two(TwoOp::Add, D(1), D(at)), 3);
+        step_refused(Size::Byte, Form::Address(AddressOp::Adda, Register::Data(D(at)), A(1)), 3);
+        step_refused(Size::Byte, Form::Address(AddressOp::Adda, Register::Address(A(at)), A(1)), 3);
+        step_refused(Size::Long, Form::Address(AddressOp::Adda, Register::Address(A(1)), A(at)), 3);
+        step_refused(Size::Byte, Form::Quick(QuickOp::Subq, 0, Register::Address(A(at))), 3);
+        step_refused(Size::Byte, Form::One(OneOp::Ext, D(at)), 3);
+        step_refused(Size::Byte, Form::Shift(ShiftOp::Asl, Count::Data(D(at)), D(1)), 3);
+        step_refused(Size::Byte, Form::Bit(BitOp::Bclr, Count::Small(32), D(at)), 3);
+        step_refused(Size::Byte, Form::Chk(D(at), D(1)), 3);
+    }
+}
+
+#[test]
+fn number_4_width_lines() {
+    let texts: [&[u8]; 9] = [
+        b"",
+        b"\n",
+        b"width\t1",
+        b"width\t3\n",
+        b"width\t8\n",
+        b"width 1\n",
+        b"Width\t1\n",
+        b"width\t1\t\n",
+        b"add\t0\t1\n",
+    ];
+    for text in texts {
+        refused(text, 4, 1);
+    }
+    for width in [0, 3, 5, 8, 255] {
+        let recipe = Recipe { width, lines: vec![] };
+        assert_eq!(translate(&recipe), Err(Refused { refusal: Refusal::WidthLine, line: 1 }));
+    }
+}
+
+#[test]
+fn numbers_5_to_7_lines() {
+    let lines: [(&str, u8); 13] = [
+        ("swap\t0\t1\n", 5),
+        ("add\t0\n", 5),
+        ("neg\t0\t1\n", 5),
+        ("neg\t00\n", 5),
+        ("neg\tD\n", 5),
+        ("neg\t0", 5),
+        ("neg\t0\r\n", 5),
+        ("\n", 5),
+        ("add\t0\t4\n", 6),
+        ("neg\t9\n", 6),
+        ("copy\t4\t4\n", 6),
+        ("copy\t3\t3\n", 7),
+        ("copy\t0\t0\n", 7),
+    ];
+    for (line, number) in lines {
+        refused(format!("width\t2\n{line}").as_bytes(), number, 2);
+        refused(format!("width\t2\nup\t0\nadd\t1\t1\n{line}").as_bytes(), number, 4);
+    }
+    refused(b"width\t4\nadd\t0\t2\n", 6, 2);
+}
+
+#[test]
+fn numbers_6_and_7_by_hand() {
+    let told = |width, line| translate(&Recipe { width, lines: vec![line] }).expect_err("it is refused");
+    let line = |verb, a, b| Line { verb, a, b };
+    let refused = |refusal| Refused { refusal, line: 2 };
+    assert_eq!(told(4, line(Verb::Clear, 2, 0)), refused(Refusal::NoSuchNumber));
+    assert_eq!(told(1, line(Verb::Add, 0, 255)), refused(Refusal::NoSuchNumber));
+    assert_eq!(told(2, line(Verb::Copy, 9, 9)), refused(Refusal::NoSuchNumber));
+    assert_eq!(told(2, line(Verb::Copy, 1, 1)), refused(Refusal::OntoItself));
+    let kept = Recipe { width: 1, lines: vec![line(Verb::Neg, 7, 255)] };
+    assert_eq!(translate(&kept).map(|listing| listing.steps().len()), Ok(1));
+}
+
+#[test]
+fn number_8_lines_after_the_32nd() {
+    assert_eq!(read(&copies(1, 32)).map(|recipe| recipe.lines.len()), Ok(32));
+    refused(&copies(1, 33), 8, 34);
+    refused(&[copies(1, 32), b"x".to_vec()].concat(), 8, 34);
+    for count in [33, 34, 256, 5000] {
+        let lines = vec![Line { verb: Verb::Copy, a: 9, b: 9 }; count];
+        let refused = translate(&Recipe { width: 1, lines });
+        assert_eq!(refused, Err(Refused { refusal: Refusal::TooManyLines, line: 0 }));
+    }
+}
+
+#[test]
+fn number_9_slots_and_slots_past_the_listing() {
+    let mark = Step { size: Size::Word, form: Form::Chk(D(200), D(100)) };
+    let recipe = read(&copies(4, 32)).expect("32 lines");
+    for length in [0, 1, 255] {
+        let mut slots = vec![mark; length];
+        let refused = translate_into(&recipe, &mut slots);
+        assert_eq!(refused, Err(Refused { refusal: Refusal::NoSpace, line: 0 }));
+        assert_eq!(slots, vec![mark; length]);
+    }
+    for length in [256, 257, 300] {
+        let mut slots = vec![mark; length];
+        assert_eq!(translate_into(&recipe, &mut slots), Ok(256));
+        assert_eq!(slots[256..], vec![mark; length - 256]);
+        assert_eq!(slots[..256], *translate(&recipe).expect("32 lines").steps());
+    }
+    let mut slots = [mark; 5];
+    assert_eq!(translate_into(&read(EXAMPLE).expect("a recipe"), &mut slots), Ok(4));
+    assert_eq!(slots[4], mark);
+    assert!(!slots[..4].contains(&mark));
+}
+
+#[test]
+fn number_10_start_places() {
+    let step = Step { size: Size::Long, form: Form::One(OneOp::Not, D(0)) };
+    for length in [0, 1, 256] {
+        let listing = Listing::new(&vec![step; length]).expect("at most 256 steps");
+        for start in [length + 1, length + 2, usize::MAX] {
+            let mut state = STATE;
+            let ran = run(&listing, &mut state, start, 5);
+            let end = End::Refused { refusal: Refusal::StartPastEnd, place: start };
+            assert_eq!(ran, Ran { end, next: start, steps: 0, clocks: 0 });
+            assert_eq!(state, STATE);
+        }
+        let end = run(&listing, &mut STATE.clone(), length, 0).end;
+        assert_eq!(end, End::Finished);
+    }
+    let ran = run_words(&[step.word(); 300], &mut STATE.clone(), 257, 5);
+    assert_eq!(ran.end, End::Refused { refusal: Refusal::StartPastEnd, place: 257 });
+}
+
+#[test]
+fn each_number_has_its_words() {
+    for (at, refusal) in Refusal::ALL.into_iter().enumerate() {
+        assert_eq!(usize::from(refusal.number()), at + 1);
+        assert!(refusal.to_string().starts_with(&format!("refused with {}: ", at + 1)));
+    }
+    let refused = read(b"width\t1\nneg\t8\n").expect_err("there is no number 8");
+    assert!(refused.to_string().starts_with("line 2: refused with 6: there is no such number"));
+}

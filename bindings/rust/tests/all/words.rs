@@ -1,0 +1,100 @@
+//! Words of steps there and back, and what is printed.
+
+use gromavelush::*;
+
+use crate::common::{EXAMPLE, Random, forms};
+
+#[test]
+fn every_form_there_and_back() {
+    let forms = forms();
+    assert_eq!(forms.len(), 1 + 5 + 2 * (3 + 2) + 5 + 2 * (8 + 4));
+    for form in forms {
+        for size in Size::ALL {
+            let step = Step { size, form };
+            assert_eq!(Step::try_from(step.word()), Ok(step));
+            assert_eq!(u64::from(step), step.word());
+        }
+    }
+}
+
+/// A word is read back exactly if it is the word of the step that it gives.
+#[test]
+fn any_word_is_a_steps_or_an_error() {
+    let mut random = Random(3);
+    let mut steps = 0;
+    for _ in 0..500_000 {
+        let word = match random.below(3) {
+            0 => random.bits(),
+            1 => random.bits() & 0x07_0703_031F,
+            _ => random.bits() & 0xFF_FF03_031F,
+        };
+        match Step::try_from(word) {
+            Ok(step) => {
+                assert_eq!(step.word(), word);
+                steps += 1;
+            }
+            Err(NoStep(told)) => assert_eq!(told, word),
+        }
+    }
+    assert!(steps > 10_000, "{steps}");
+    let add = Step { size: Size::Long, form: Form::Two(TwoOp::Add, D(0), D(2)) };
+    assert_eq!(Step::try_from(add.word() | 1 << 40), Err(NoStep(add.word() | 1 << 40)));
+}
+
+/// The library prints each step as `Display` does.
+#[test]
+fn steps_print_as_the_library_prints_them() {
+    let mut random = Random(4);
+    for form in forms() {
+        let steps: Vec<Step> = Size::ALL.iter().map(|&size| Step { size, form }).collect();
+        let listing = Listing::new(&steps).expect("three steps");
+        let width = random.bits() as u8;
+        let text = print(width, &listing);
+        let lines: Vec<&str> = text.lines().collect();
+        assert_eq!(lines[0], format!("width\t{width}\t3"));
+        for (place, step) in steps.iter().enumerate() {
+            assert_eq!(lines[1 + place], format!("{place}\t{step}"));
+        }
+        assert!(lines[4].starts_with("clocks\t") && lines.len() == 5);
+    }
+}
+
+#[test]
+fn document_01_s_example_is_printed_exactly() {
+    let should = "width\t2\t4\n0\tADD\tL\tD0\tD2\n1\tADDX\tL\tD1\tD3\n2\tNEG\tL\t-\tD2\n3\tNEGX\tL\t-\tD3\nclocks\t20\n";
+    assert_eq!(answer(EXAMPLE), should);
+    let recipe = read(EXAMPLE).expect("it is a recipe");
+    let listing = translate(&recipe).expect("it is sound");
+    assert_eq!(print(recipe.width, &listing), should);
+    assert_eq!(recipe.to_string().as_bytes(), EXAMPLE);
+}
+
+#[test]
+fn run_and_compared_only() {
+    assert_eq!(answer(b"width\t4\nadd\t0\t2\n"), "refused\t6\t2\n");
+    assert!(answer(&crate::common::copies(4, 32)).starts_with("width\t4\t256\n"));
+    assert_eq!(answer(&crate::common::copies(4, 33)), "refused\t8\t34\n");
+    assert_eq!(answer(b""), "refused\t4\t1\n");
+    assert_eq!(answer(b"width\t1\n"), "width\t1\t0\nclocks\t0\n");
+    let recipe = read(&crate::common::copies(4, 32)).expect("32 lines");
+    let blank = Step { size: Size::Long, form: Form::One(OneOp::Clr, D(0)) };
+    let refused = translate_into(&recipe, &mut [blank; 255]);
+    assert_eq!(refused, Err(Refused { refusal: Refusal::NoSpace, line: 0 }));
+}
+
+/// The longest line that can be printed, 256 times: nothing is left off.
+#[test]
+fn the_longest_listing_is_printed_whole() {
+    let step =
+        Step { size: Size::Long, form: Form::Address(AddressOp::Adda, Register::Address(A(255)), A(255)) };
+    let text = print(255, &Listing::new(&[step; 256]).expect("256 steps"));
+    assert_eq!(text.lines().count(), 258);
+    assert!(text.ends_with("255\tADDA\tL\tA255\tA255\nclocks\t0\n"));
+}
+
+#[test]
+fn a_listing_is_not_longer_than_256() {
+    let step = Step { size: Size::Long, form: Form::One(OneOp::Clr, D(0)) };
+    assert_eq!(Listing::new(&[step; 257]), Err(TooLong { steps: 257 }));
+    assert_eq!(Listing::new(&[step; 256]).map(|listing| listing.words().len()), Ok(256));
+}
