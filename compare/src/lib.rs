@@ -29,5 +29,6 @@ pub mod recipes;
 pub mod shim;
 pub mod steps;
 pub mod texts;
+pub mod timing;
 pub mod tuned;
 pub mod vectors;

@@ -2,6 +2,7 @@
 
 use crate::recipes::{Recipe, Refused};
 use crate::steps::{Slice, Step};
+use std::hint::black_box;
 use std::mem::MaybeUninit;
 
 /// recipes::types::Refusal: a byte, from 0 on in the order of `NUMBERS`.
@@ -79,6 +80,16 @@ pub fn translate_array(recipe: Recipe) -> (Refused, usize, [Step; 256]) {
     // SAFETY: as above.
     let made = answered(|answer| unsafe { recipes_translator_translate_array(answer, &recipe) });
     (refused(made.refusal, made.line), made.count, made.steps)
+}
+
+/// The same for a measurement: the listing stays where the port wrote it, and its number of steps is told.
+pub fn translated(recipe: &Recipe) -> usize {
+    let mut listing = MaybeUninit::<Listing>::uninit();
+    // SAFETY: as above; the port has written all of the listing.
+    unsafe {
+        recipes_translator_translate_array(listing.as_mut_ptr(), recipe);
+        black_box(&listing).assume_init_ref().count
+    }
 }
 
 /// The refusal, and the number of steps.

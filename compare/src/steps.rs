@@ -158,7 +158,7 @@ fn next(x: u32) -> u32 {
 const SIZES: [Size; 3] = [Size::Byte, Size::Word, Size::Long];
 
 fn fitting_size(kind: u32, k: u32, z: u32) -> Size {
-    let wide = if z % 2 == 0 { Size::Word } else { Size::Long };
+    let wide = if z.is_multiple_of(2) { Size::Word } else { Size::Long };
     match kind {
         5..9 => wide,
         9..11 if k % 5 == 4 => wide,
@@ -169,8 +169,9 @@ fn fitting_size(kind: u32, k: u32, z: u32) -> Size {
 }
 
 fn form_of(kind: u32, k: u32, small: u8, s: u8, r: u8) -> Form {
-    let place = |register| if k % 2 == 0 { Register::Data(register) } else { Register::Address(register) };
-    let count = if k % 2 == 0 { Count::Small(small) } else { Count::Data(s) };
+    let place =
+        |register| if k.is_multiple_of(2) { Register::Data(register) } else { Register::Address(register) };
+    let count = if k.is_multiple_of(2) { Count::Small(small) } else { Count::Data(s) };
     match kind {
         0..5 => Form::Two([Two::Add, Two::Sub, Two::Cmp, Two::Addx, Two::Subx][(k % 5) as usize], s, r),
         5..7 => Form::Address([Adr::Adda, Adr::Suba, Adr::Cmpa][(k % 3) as usize], place(s), r),
@@ -220,12 +221,18 @@ fn step_of(kinds: u32, x: u32, y: u32) -> Step {
     Step { size, form: form_of(kind, k, small, source, target) }
 }
 
-pub fn listing_of(kinds: u32, seed: u32) -> [Step; 256] {
+/// Steps without end.
+pub fn steps_of(kinds: u32, seed: u32) -> impl Iterator<Item = Step> {
     let mut x = seed;
-    std::array::from_fn(|_| {
+    std::iter::repeat_with(move || {
         x = next(x);
         step_of(kinds, x / 256, next(x) / 256)
     })
+}
+
+pub fn listing_of(kinds: u32, seed: u32) -> [Step; 256] {
+    let steps: Vec<Step> = steps_of(kinds, seed).take(256).collect();
+    std::array::from_fn(|at| steps[at])
 }
 
 const PRIME: u64 = 1_000_000_007;

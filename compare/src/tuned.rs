@@ -29,7 +29,7 @@ impl Size {
 impl State {
     fn add(&mut self, size: Size, s: u32, d: u32, x: u32) -> u32 {
         let m = size.mask() as u64;
-        let r = ((s as u64 & m) + (d as u64 & m) + x as u64) as u64;
+        let r = (s as u64 & m) + (d as u64 & m) + x as u64;
         let (res, top) = ((r & m) as u32, size.top());
         self.flags.c = r > m;
         self.flags.x = self.flags.c;
@@ -139,7 +139,7 @@ impl State {
                     if t >= 8 {
                         return Err(Stop::Refused(Fault::NoRegister));
                     }
-                    if k < 1 || k > 8 {
+                    if !(1..=8).contains(&k) {
                         return Err(Stop::Refused(Fault::Small));
                     }
                     let dst = self.d[t];
@@ -159,7 +159,7 @@ impl State {
                     if size == Size::Byte {
                         return Err(Stop::Refused(Fault::NoSize));
                     }
-                    if k < 1 || k > 8 {
+                    if !(1..=8).contains(&k) {
                         return Err(Stop::Refused(Fault::Small));
                     }
                     self.a[t] = match op {
@@ -217,10 +217,10 @@ impl State {
                 if t >= 8 {
                     return Err(Stop::Refused(Fault::NoRegister));
                 }
-                if let Count::Small(k) = c {
-                    if k < 1 || k > 8 {
-                        return Err(Stop::Refused(Fault::Small));
-                    }
+                if let Count::Small(k) = c
+                    && !(1..=8).contains(&k)
+                {
+                    return Err(Stop::Refused(Fault::Small));
                 }
                 let (n, m, top) = (size.bits(), size.mask(), size.top());
                 let v = self.d[t] & m;
@@ -292,10 +292,10 @@ impl State {
                 if size != Size::Long {
                     return Err(Stop::Refused(Fault::NoSize));
                 }
-                if let Count::Small(k) = c {
-                    if k > 31 {
-                        return Err(Stop::Refused(Fault::Small));
-                    }
+                if let Count::Small(k) = c
+                    && k > 31
+                {
+                    return Err(Stop::Refused(Fault::Small));
                 }
                 let k = k & 31;
                 let b = 1 << k;
