@@ -144,7 +144,8 @@ impl Refusal {
 
     /// The refusal of a number that the library tells; 0 is none.
     pub(crate) fn told(number: u64) -> Option<Refusal> {
-        Refusal::ALL.into_iter().find(|refusal| u64::from(refusal.number()) == number)
+        let at = usize::try_from(number).ok()?.checked_sub(1)?;
+        Refusal::ALL.get(at).copied()
     }
 
     fn words(self) -> &'static str {

@@ -70,15 +70,18 @@ fn number_2_sizes() {
 #[test]
 fn number_2_words_that_name_no_step() {
     let mut random = Random(2);
+    let mut met = 0;
     for _ in 0..20_000 {
         let word = random.bits() & random.bits() & 0xFF_FFFF_FFFF;
-        let step = Step::try_from(word);
-        let ran = run_words(&[word], &mut STATE.clone(), 0, 9);
-        let small_source = word & !0xFF00_0000;
-        if step.is_err() && Step::try_from(small_source).is_err() {
+        // CLR and its like have no source, and take any number of one
+        let without_source = word & !0xFF00_0000;
+        if Step::try_from(word).is_err() && Step::try_from(without_source).is_err() {
+            let ran = run_words(&[word], &mut STATE.clone(), 0, 9);
             assert_eq!(ran.end, End::Refused { refusal: Refusal::NoSuchSize, place: 0 }, "{word:x}");
+            met += 1;
         }
     }
+    assert!(met > 10_000, "{met}");
 }
 
 #[test]
