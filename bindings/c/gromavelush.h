@@ -31,7 +31,7 @@ enum gro_flag { GRO_X = 16, GRO_N = 8, GRO_Z = 4, GRO_V = 2, GRO_C = 1 };
 
 enum gro_size { GRO_BYTE = 0, GRO_WORD = 1, GRO_LONG = 2 };
 
-/* AddqA and SubqA are ADDQ and SUBQ on an address register. */
+/* GRO_ADDQA and GRO_SUBQA are ADDQ and SUBQ on an address register. */
 enum gro_operation {
     GRO_ADD = 0x00, GRO_SUB, GRO_CMP, GRO_ADDX, GRO_SUBX, GRO_ADDA, GRO_SUBA, GRO_CMPA,
     GRO_ADDQ = 0x08, GRO_SUBQ, GRO_ADDQA, GRO_SUBQA, GRO_CLR, GRO_NEG, GRO_NEGX, GRO_NOT,
@@ -40,16 +40,26 @@ enum gro_operation {
 };
 
 /*
+ * Refusal numbers. Of operations and steps: 1 a step's small number is out of its range (1 to 8, for a bit 0 to 31), or ROXL or ROXR is
+ * called with a count above 63; 2 the operation hasn't that size, or there is no such operation, size or step; 3 a step's register
+ * number is above 7. A step is tested for 3, 2, 1. Of recipes: 4 the width line, or the width; 5 unknown verb, wrong number of fields, a
+ * field that isn't one digit, no byte 10; 6 no such number at this width; 7 copy of a number onto itself; 8 more than 32 lines; 9 too few
+ * slots. Of runs: 10 the start place is past the end.
+ */
+
+/*
  * One operation on values. src is the source, small number, count, bit number or CHK's bound; dst all 32 bits of the destination.
  * Bits of the answer: 0 to 31 the result, 32 to 36 the flags, 40 to 47 the clock figure, 48 and 49 the refusal number (0: accepted),
- * 52 and 53 CHK's class (0 Pass, 1 Over, 2 Short, 3 Below). A number that names no operation or no size is refused with 2.
+ * 52 and 53 CHK's class (0 Pass, 1 Over, 2 Short, 3 Below); all others are 0. A number that names no operation or no size is refused
+ * with 2. Refused, result, figure and class are 0 and the flags as they came.
  */
 uint64_t alu_call(uint8_t operation, uint8_t size, uint32_t src, uint32_t dst, uint8_t flags);
 
 /*
  * A step is a word of 64 bits: byte 0 (the lowest) the operation, 1 the size, 2 the source's kind, 3 the source's number, 4 the
- * destination's register number; the bytes above don't count. The destination of ADDA, SUBA, CMPA, AddqA and SubqA is an address
- * register, any other a data register. A word that names no step of document 01's forms is refused with 2 where it is run.
+ * destination's register number; the bytes above don't count, nor byte 3 with kind 0. The destination of ADDA, SUBA, CMPA, GRO_ADDQA
+ * and GRO_SUBQA is an address register, any other a data register. A word that names no step of document 01's forms is refused with 2
+ * where it is run. GRO_STEP takes the low 8 bits of each number: test one that may be above 255 before.
  */
 enum gro_source { GRO_NONE = 0, GRO_SMALL = 1, GRO_DATA = 2, GRO_ADDRESS = 3 };
 #define GRO_STEP(operation, size, kind, source, destination)                                                              \
@@ -68,14 +78,15 @@ void listing_run(const uint64_t *listing, size_t length, uint32_t d[8], uint32_t
 /*
  * Prints the first 256 steps of a listing as the program recipe does, with this width in the first line. Answers how many bytes it
  * wrote, with no 0 behind them; what has no room is left off. 20,480 bytes are enough for any listing. The last line has the sum of
- * the figures that the steps have where all registers and flags are 0: those of a recipe's steps are the same everywhere, a shift by
- * a register or a CHK may have another in a run, and a step that is refused has 0. A word that names no step prints as CHK B D0 D0.
+ * the figures that the steps have where all registers and flags are 0: those of a recipe's steps are the same everywhere; a shift,
+ * BSET or BCHG by a register, or a CHK, may have another in a run, and a step that is refused has 0. A word that names no step
+ * prints as CHK B D0 D0.
  */
 size_t listing_print(uint8_t width, const uint64_t *listing, size_t length, uint8_t *out, size_t room);
 
 /*
  * A line of a recipe is a word of 32 bits: byte 0 the verb, 1 and 2 the numbers a and b; byte 3 doesn't count. Verbs that take one
- * number have it in a, and b doesn't count.
+ * number have it in a, and b doesn't count. GRO_LINE takes the low 8 bits of each number: test one that may be above 255 before.
  */
 enum gro_verb {
     GRO_VERB_CLEAR, GRO_VERB_COPY, GRO_VERB_ADD, GRO_VERB_SUB, GRO_VERB_NEG, GRO_VERB_NOT, GRO_VERB_HALVE, GRO_VERB_DOWN, GRO_VERB_UP
@@ -83,14 +94,14 @@ enum gro_verb {
 #define GRO_LINE(verb, a, b) ((uint32_t)(uint8_t)(verb) | (uint32_t)(uint8_t)(a) << 8 | (uint32_t)(uint8_t)(b) << 16)
 
 /*
- * Reads a recipe text. lines gets its lines, `clear 0` behind them. told: 0 the refusal number (0: none), 1 its text line, 2 the
- * width, 3 the number of lines. A refused text has width 1 and no lines.
+ * Reads a recipe text. lines gets its lines, `clear 0` behind them. told: 0 the refusal number (0: none), 1 its text line (0: none), 2
+ * the width, 3 the number of lines. A refused text has width 1 and no lines.
  */
 void recipe_read(const uint8_t *text, size_t length, uint32_t lines[32], uint64_t told[4]);
 
 /*
  * Translates the first count of the 32 lines into a listing of length slots. told: 0 the refusal number (0: none), 1 its text line
- * (1 for the width, k + 2 for line k counted from 0, and 0 for 8 and 9), 2 the number of steps. The slots past the steps stay; a
+ * (1 for the width, k + 2 for line k counted from 0, and 0 for 8, 9 and none), 2 the number of steps. The slots past the steps stay; a
  * refusal leaves all. A count above 32 is refused with 8, an unknown verb with 5. 256 slots are enough for any recipe.
  */
 void recipe_translate(uint8_t width, size_t count, const uint32_t lines[32], uint64_t *listing, size_t length, uint64_t told[3]);
@@ -101,7 +112,8 @@ size_t recipe_answer(const uint8_t *text, size_t length, uint8_t *out, size_t ro
 /*
  * Reads a recipe text and runs it on a state. told: 0 the refusal number (0: none), 1 its text line, 2 the flags that are promised,
  * 3 the steps, 4 the sum of their clock figures. After add, sub and neg, and with no line, all five flags are promised, else X alone;
- * a flag that is not promised is left 0. A refused text leaves the state.
+ * a flag that is not promised is left 0. A refused text leaves d, a and the five flags,
+ * and tells all five promised, 0 steps and 0 clocks.
  */
 void recipe_run(const uint8_t *text, size_t length, uint32_t d[8], uint32_t a[8], uint8_t *flags, uint64_t told[5]);
 

@@ -1,7 +1,7 @@
 /*
  * How much stack each function of gromavelush.h uses at most: it is called on a painted stack with inputs that reach every part of
  * it. A line for each function: its name and the bytes, the call itself counted in, and memcpy, but not the loader's work at the first
- * call of that. Status 1: one uses more than the header says.
+ * call of that. Status 1: one uses more than the 16 KiB that the header asks for.
  */
 #define _XOPEN_SOURCE 700
 #include "gromavelush.h"

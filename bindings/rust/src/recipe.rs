@@ -242,7 +242,7 @@ fn printed(print: impl FnOnce(&mut [u8]) -> usize) -> String {
 /// A listing as the program `recipe` prints it, with this width in the first line.
 ///
 /// The sum in the last line is of the figures that the steps have with all registers and flags 0. A step of a recipe has
-/// the same figure always; a shift by a data register or a CHK may take other clocks in a run, and a step that is refused
+/// the same figure always; a shift, BSET or BCHG by a data register, or a CHK, may take other clocks in a run, and a step that is refused
 /// there has 0.
 ///
 /// ```

@@ -40,7 +40,7 @@ abbrev pub byteOf : (i word : ℕ) → ℕ
 byteOf i word = word / 256 ^ i % 256
 
 -- ---- a step: byte 0 is the operation, 1 the size (0 byte, 1 word, 2 long), 2 the source's kind (0 none, 1 a small number, 2 a data register, 3 an
--- address register), 3 the source's number, 4 the destination's register number. The bytes above do not count
+-- address register), 3 the source's number, 4 the destination's register number. The bytes above do not count, nor byte 3 where the kind is 0
 
 -- the operations by number, from 0, as `alu_call` numbers them (`operations` of calls/specs/Packed). ADDQ and SUBQ stand twice: on a data register
 -- and on an address register
