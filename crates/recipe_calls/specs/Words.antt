@@ -97,7 +97,7 @@ stepOf word = named (byteOf 1 word) (madeOf (getD operations (byteOf 0 word) Unk
 abbrev pub firstOf : List ℕ → List Step
 firstOf listing = map stepOf (take 256 listing)
 
--- ---- the word of a step (`word-names` of proofs/Words: it names that step)
+-- ---- the word of a step (`word-names` of proofs/Round: it names that step)
 
 abbrev pub twoNumber : TwoOp → ℕ
 twoNumber Add = 0x00
