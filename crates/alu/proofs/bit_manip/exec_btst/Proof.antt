@@ -7,7 +7,7 @@ use Rattle.alu.proofs.bit_manip.exec_btst.Tie as tie
 
 returns : tie.Need-returns
 unfolding bitopOf
-returns c = cc
+returns c = rw (c .before .bit-answer .ensures) at (c .only-long .ensures)
 
 pub exec-btst-spec : {M : Type 1} → statement M
 exec-btst-spec = tie.close (tie.spec (search needs) (search needs) returns)

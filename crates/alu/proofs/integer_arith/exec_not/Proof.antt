@@ -11,7 +11,7 @@ returns : tie.Need-returns
 returns c =
     let a = c .before .before .before .before .args in
     let d-low : a .dst < 2 ^ 32 = omega arith in
-    cc (complement-whole (a .size) (a .dst) d-low)
+    rw (c .before .figure .ensures, c .before .before .set-logic-flags .ensures, c .before .before .before .masked .ensures, ← complement-whole (a .size) (a .dst) d-low) at (c .accepted .ensures)
 
 pub exec-not-spec : {M : Type 1} → statement M
 exec-not-spec = tie.close (tie.spec (λ c. search needs) (search needs) (search needs) (search needs) (search needs) returns)
