@@ -26,4 +26,6 @@ returns-2 c =
 
 pub alu-call-spec : {M : Type 1} → statement M
 alu-call-spec =
-    tie.close (tie.spec (search needs) (λ c. search needs) (λ c. search needs) (search needs) (search needs) (search needs) returns (search needs) returns-2)
+    tie.close
+    (tie.spec
+    (search needs) (λ c. search needs) (λ c. search needs) (search needs) (search needs) (search needs) returns (search needs) returns-2)

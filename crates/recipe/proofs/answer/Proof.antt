@@ -8,9 +8,6 @@ use Rattle.recipes.proofs.Room.{answer-short, counted, whole-written}
 use Rattle.recipe.proofs.answer.Statement.{statement}
 use Rattle.recipe.proofs.answer.Tie as tie
 
-answer-requires : tie.Need-answer-requires
-answer-requires c κs = search needs
-
 returns : tie.Need-returns
 returns c =
     let s = c .before .before .before in
@@ -19,4 +16,4 @@ returns c =
     (counted _ _ _ _ (c .answer .ensures), whole-written _ _ _ _ (c .answer .ensures) room)
 
 pub answer-spec : {M : Type 1} → statement M
-answer-spec = tie.close (tie.spec answer-requires returns)
+answer-spec = tie.close (tie.spec (search needs) returns)

@@ -7,9 +7,5 @@ pub ccr-after-spec : {M : Type 1} → statement M
 ccr-after-spec =
     tie.close
     (tie.spec
-    (λ c. search needs)
-    (λ c. search needs)
-    (λ c. search needs)
-    (λ c. rw (c .before .enum-told .given .1, c .if1 .taken))
-    (λ c. rw (c .before .enum-told .given .1, c .if1 .left))
-    (λ c. rw (c .before .before .codes .given .1) (c .ccr .ensures)))
+    (λ c. search needs) (λ c. search needs) (λ c. search needs) (λ c. rw (c .before .enum-told .given .1, c .if1 .taken))
+    (λ c. rw (c .before .enum-told .given .1, c .if1 .left)) (λ c. rw (c .before .before .codes .given .1) (c .ccr .ensures)))

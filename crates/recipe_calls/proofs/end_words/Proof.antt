@@ -8,15 +8,7 @@ pub end-words-spec : {M : Type 1} → statement M
 end-words-spec =
     tie.close
     (tie.spec
-    (λ c. search needs)
-    (λ c. search needs)
-    (λ c. search needs)
-    (λ c. search needs)
-    (λ c. search needs)
-    (λ c. search needs)
-    (λ c. search needs)
-    (λ c. search needs)
-    (λ c. search needs)
-    (λ c. search needs)
+    (λ c. search needs) (λ c. search needs) (λ c. search needs) (λ c. search needs) (λ c. search needs) (λ c. search needs) (λ c. search needs)
+    (λ c. search needs) (λ c. search needs) (λ c. search needs)
     (λ c. rw (c .before .before .before .end .given .1, c .long .ensures, c .before .class .ensures))
     (λ c. rw (c .before .before .before .end2 .given .1, c .long2 .ensures, c .before .number .ensures)))

@@ -9,10 +9,4 @@ returns c =
     rw (← p .before .before .steps-of .ensures) (p .print .ensures)
 
 pub listing-print-spec : {M : Type 1} → statement M
-listing-print-spec =
-    tie.close
-    (tie.spec
-    (λ c. search needs)
-    (λ c. search needs)
-    (λ c. search needs)
-    returns)
+listing-print-spec = tie.close (tie.spec (λ c. search needs) (λ c. search needs) (λ c. search needs) returns)

@@ -17,4 +17,8 @@ returns-3 : tie.Need-returns-3
 returns-3 c = cc
 
 pub ext-result-spec : {M : Type 1} → statement M
-ext-result-spec = tie.close (tie.spec (λ c. search needs) (λ c. search needs) (λ c. search needs) (search needs) add-result (λ c. search needs) (search needs) (λ c. search needs) returns-2 returns-3)
+ext-result-spec =
+    tie.close
+    (tie.spec
+    (λ c. search needs) (λ c. search needs) (λ c. search needs) (search needs) add-result (λ c. search needs) (search needs) (λ c. search needs)
+    returns-2 returns-3)

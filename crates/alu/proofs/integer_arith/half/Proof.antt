@@ -6,4 +6,8 @@ use Rattle.alu.proofs.integer_arith.half.Statement.{statement}
 use Rattle.alu.proofs.integer_arith.half.Tie as tie
 
 pub half-spec : {M : Type 1} → statement M
-half-spec = tie.close (tie.spec (search needs) (search needs) (search needs) (λ c. rw (c .enum-told .given .1) (omega arith)) (λ c. rw (c .enum-told2 .given .1) (omega arith)) (λ c. rw (c .enum-told3 .given .1) (omega arith)))
+half-spec =
+    tie.close
+    (tie.spec
+    (search needs) (search needs) (search needs) (λ c. rw (c .enum-told .given .1) (omega arith)) (λ c. rw (c .enum-told2 .given .1) (omega arith))
+    (λ c. rw (c .enum-told3 .given .1) (omega arith)))

@@ -18,5 +18,4 @@ returns c =
     rw (difference-whole (a .size) (a .src) (a .dst) (a .x) s-low, ← (c .before .digit .ensures)) (c .masked .ensures)
 
 pub subtract-spec : {M : Type 1} → statement M
-subtract-spec =
-    tie.close (tie.spec (λ c. search needs) (search needs) (λ c. search needs) (λ c. search needs) sub-whole (search needs) returns)
+subtract-spec = tie.close (tie.spec (λ c. search needs) (search needs) (λ c. search needs) (λ c. search needs) sub-whole (search needs) returns)

@@ -53,4 +53,7 @@ returns c =
     (⊎-elim (λ t. inl (t .0 .taken, t .1)) (λ e. inr (e .0 .left, e .1)) (c .before .before .if1 .came)) .0
 
 pub asr-spec : {M : Type 1} → statement M
-asr-spec = tie.close (tie.spec (search needs) (search needs) (search needs) (search needs) (search needs) sub-fill (search needs) add-from-below from-below-requires returns)
+asr-spec =
+    tie.close
+    (tie.spec
+    (search needs) (search needs) (search needs) (search needs) (search needs) sub-fill (search needs) add-from-below from-below-requires returns)

@@ -35,4 +35,7 @@ returns c =
     c .from-below .ensures ∙ ap fromBelow ring ∙ sym (roxr-turns n (start n (a .value) (a .x)) (bits-pos (a .size)) (low-lt n (a .value)) (a .k))
 
 pub roxr-spec : {M : Type 1} → statement M
-roxr-spec = tie.close (tie.spec (search needs) (search needs) (search needs) (search needs) (search needs) turned-left-requires from-below-requires returns)
+roxr-spec =
+    tie.close
+    (tie.spec
+    (search needs) (search needs) (search needs) (search needs) (search needs) turned-left-requires from-below-requires returns)

@@ -12,45 +12,9 @@ Inv-loop out₀ letter registers next₀ r₀ out next r = (r ≤ 8) × (length 
 abbrev μ-loop : tie.MeasureT-loop
 μ-loop out₀ letter registers next₀ r₀ out next r = 8 - r
 
-loop-holds : tie.Need-loop-holds Inv-loop μ-loop
-loop-holds c = search needs
-
-mul-put-setting : tie.Need-mul-put-setting Inv-loop μ-loop
-mul-put-setting c = search needs
-
-array-read-put-setting : tie.Need-array-read-put-setting Inv-loop μ-loop
-array-read-put-setting c = search needs
-
-put-setting-requires : tie.Need-put-setting-requires Inv-loop μ-loop
-put-setting-requires c κs = search needs
-
-add-r : tie.Need-add-r Inv-loop μ-loop
-add-r c = search needs
-
-loop-less : tie.Need-loop-less Inv-loop μ-loop
-loop-less c = search needs
-
-loop-again : tie.Need-loop-again Inv-loop μ-loop
-loop-again c = search needs
-
-same-length : tie.Need-same-length Inv-loop μ-loop
-same-length c = search needs
-
-returns : tie.Need-returns Inv-loop μ-loop
-returns c = search needs
-
 pub put-settings-spec : {M : Type 1} → statement M
 put-settings-spec =
     tie.close
     (tie.spec
-    Inv-loop
-    μ-loop
-    loop-holds
-    mul-put-setting
-    array-read-put-setting
-    put-setting-requires
-    add-r
-    loop-less
-    loop-again
-    same-length
-    returns)
+    Inv-loop μ-loop (search needs) (search needs) (search needs) (search needs) (search needs) (search needs) (search needs) (search needs)
+    (λ c. search needs))

@@ -11,41 +11,8 @@ Inv-loop text k at₀ left₀ at left = at ≤ length text
 abbrev μ-loop : tie.MeasureT-loop
 μ-loop text k at₀ left₀ at left = length text - at
 
-loop-holds : tie.Need-loop-holds Inv-loop μ-loop
-loop-holds c = search needs
-
-returns : tie.Need-returns Inv-loop μ-loop
-returns c = search needs
-
-shared-slice-read-if2 : tie.Need-shared-slice-read-if2 Inv-loop μ-loop
-shared-slice-read-if2 c = search needs
-
-sub-left : tie.Need-sub-left Inv-loop μ-loop
-sub-left c = search needs
-
-add-at : tie.Need-add-at Inv-loop μ-loop
-add-at c = search needs
-
-loop-less : tie.Need-loop-less Inv-loop μ-loop
-loop-less c = search needs
-
-loop-again : tie.Need-loop-again Inv-loop μ-loop
-loop-again c = search needs
-
-returns-2 : tie.Need-returns-2 Inv-loop μ-loop
-returns-2 c = search needs
-
 pub line-start-spec : {M : Type 1} → statement M
 line-start-spec =
     tie.close
     (tie.spec
-    Inv-loop
-    μ-loop
-    loop-holds
-    returns
-    shared-slice-read-if2
-    sub-left
-    add-at
-    loop-less
-    loop-again
-    returns-2)
+    Inv-loop μ-loop (search needs) (λ c. search needs) (search needs) (search needs) (search needs) (search needs) (search needs) (λ c. search needs))

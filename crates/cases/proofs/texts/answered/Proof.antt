@@ -4,11 +4,8 @@ use Rattle.recipes.proofs.Room.{counted}
 use Rattle.cases.proofs.texts.answered.Statement.{statement}
 use Rattle.cases.proofs.texts.answered.Tie as tie
 
-answer-requires : tie.Need-answer-requires
-answer-requires c κs = search needs
-
 returns : tie.Need-returns
 returns c = counted _ _ _ _ (c .answer .ensures)
 
 pub answered-spec : {M : Type 1} → statement M
-answered-spec = tie.close (tie.spec answer-requires returns)
+answered-spec = tie.close (tie.spec (search needs) returns)

@@ -7,18 +7,7 @@ pub destination-number-spec : {M : Type 1} → statement M
 destination-number-spec =
     tie.close
     (tie.spec
-    (λ c. search needs)
-    (λ c. search needs)
-    (λ c. search needs)
-    (λ c. search needs)
-    (λ c. search needs)
-    (λ c. search needs)
-    (λ c. search needs)
-    (λ c. search needs)
-    (λ c. rw (c .before .form .given .1))
-    (λ c. rw (c .before .form2 .given .1))
-    (λ c. rw (c .before .before .form3 .given .1) (c .register-number .ensures))
-    (λ c. rw (c .before .form4 .given .1))
-    (λ c. rw (c .before .form5 .given .1))
-    (λ c. rw (c .before .form6 .given .1))
-    (λ c. rw (c .before .form7 .given .1)))
+    (λ c. search needs) (λ c. search needs) (λ c. search needs) (λ c. search needs) (λ c. search needs) (λ c. search needs) (λ c. search needs)
+    (λ c. search needs) (λ c. rw (c .before .form .given .1)) (λ c. rw (c .before .form2 .given .1))
+    (λ c. rw (c .before .before .form3 .given .1) (c .register-number .ensures)) (λ c. rw (c .before .form4 .given .1))
+    (λ c. rw (c .before .form5 .given .1)) (λ c. rw (c .before .form6 .given .1)) (λ c. rw (c .before .form7 .given .1)))

@@ -8,6 +8,4 @@ pub either-spec : {M : Type 1} → statement M
 either-spec =
     tie.close
     (tie.spec
-    (λ c. search needs)
-    (λ c. rw (eq-eqb _ _ (c .if1 .taken)))
-    (λ c. rw (ne-eqb _ _ (c .before .if1 .left)) (c .only .ensures)))
+    (λ c. search needs) (λ c. rw (eq-eqb _ _ (c .if1 .taken))) (λ c. rw (ne-eqb _ _ (c .before .if1 .left)) (c .only .ensures)))

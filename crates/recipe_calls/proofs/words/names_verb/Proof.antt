@@ -5,8 +5,4 @@ use Rattle.recipe_calls.proofs.words.names_verb.Statement.{statement}
 use Rattle.recipe_calls.proofs.words.names_verb.Tie as tie
 
 pub names-verb-spec : {M : Type 1} → statement M
-names-verb-spec =
-    tie.close
-    (tie.spec
-    (λ c. search needs)
-    (λ c. rw (low (c .before .args .word) (c .byte .ensures))))
+names-verb-spec = tie.close (tie.spec (λ c. search needs) (λ c. rw (low (c .before .args .word) (c .byte .ensures))))

@@ -10,8 +10,6 @@ pub sized-spec : {M : Type 1} → statement M
 sized-spec =
     tie.close
     (tie.spec
-    (λ c. search needs)
-    (λ c. let is : c .before .args .size ≡ 0 = omega arith in rw is)
-    (λ c. let is : c .before .args .size ≡ 1 = omega arith in rw is)
-    (λ c. let is : c .before .args .size ≡ 2 = omega arith in rw is)
+    (λ c. search needs) (λ c. let is : c .before .args .size ≡ 0 = omega arith in rw is)
+    (λ c. let is : c .before .args .size ≡ 1 = omega arith in rw is) (λ c. let is : c .before .args .size ≡ 2 = omega arith in rw is)
     (λ c. let no = ne-eqb (c .before .before .args .size) in rw (no 0 (omega arith), no 1 (omega arith), no 2 (omega arith)) (c .no-step .ensures)))

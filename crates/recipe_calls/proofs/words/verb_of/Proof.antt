@@ -17,13 +17,8 @@ pub verb-of-spec : {M : Type 1} → statement M
 verb-of-spec =
     tie.close
     (tie.spec
-    (λ c. at (c .before .args .number) 0 (omega arith))
-    (λ c. at (c .before .args .number) 1 (omega arith))
-    (λ c. at (c .before .args .number) 2 (omega arith))
-    (λ c. at (c .before .args .number) 3 (omega arith))
-    (λ c. at (c .before .args .number) 4 (omega arith))
-    (λ c. at (c .before .args .number) 5 (omega arith))
-    (λ c. at (c .before .args .number) 6 (omega arith))
-    (λ c. at (c .before .args .number) 7 (omega arith))
-    (λ c. at (c .before .args .number) 8 (omega arith))
-    (λ c. missed verbs NoVerb (c .before .args .number) (c .match .rest)))
+    (λ c. at (c .before .args .number) 0 (omega arith)) (λ c. at (c .before .args .number) 1 (omega arith))
+    (λ c. at (c .before .args .number) 2 (omega arith)) (λ c. at (c .before .args .number) 3 (omega arith))
+    (λ c. at (c .before .args .number) 4 (omega arith)) (λ c. at (c .before .args .number) 5 (omega arith))
+    (λ c. at (c .before .args .number) 6 (omega arith)) (λ c. at (c .before .args .number) 7 (omega arith))
+    (λ c. at (c .before .args .number) 8 (omega arith)) (λ c. missed verbs NoVerb (c .before .args .number) (c .match .rest)))

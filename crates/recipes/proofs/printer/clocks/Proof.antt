@@ -24,24 +24,6 @@ loop-holds c = let h : length (c .args .t1) ≡ 256 = search mapped in (search n
 returns : tie.Need-returns Inv-loop μ-loop
 returns c = let l = c .before .before .loop in let e : l .k ≡ c .before .before .before .args .count = omega arith in rw e at (l .inv .3)
 
-mul-step : tie.Need-mul-step Inv-loop μ-loop
-mul-step c = search needs
-
-array-copy-out-step : tie.Need-array-copy-out-step Inv-loop μ-loop
-array-copy-out-step c = search needs
-
-figure-requires : tie.Need-figure-requires Inv-loop μ-loop
-figure-requires c κs = search needs
-
-add-sum : tie.Need-add-sum Inv-loop μ-loop
-add-sum c = search needs
-
-add-k : tie.Need-add-k Inv-loop μ-loop
-add-k c = search needs
-
-loop-less : tie.Need-loop-less Inv-loop μ-loop
-loop-less c = search needs
-
 loop-again : tie.Need-loop-again Inv-loop μ-loop
 loop-again c =
     let e = c .before .before in
@@ -61,15 +43,4 @@ pub clocks-spec : {M : Type 1} → statement M
 clocks-spec =
     tie.close
     (tie.spec
-    Inv-loop
-    μ-loop
-    loop-holds
-    returns
-    mul-step
-    array-copy-out-step
-    figure-requires
-    add-sum
-    add-k
-    loop-less
-    loop-again
-    returns-2)
+    Inv-loop μ-loop loop-holds returns (search needs) (search needs) (search needs) (search needs) (search needs) (search needs) loop-again returns-2)

@@ -8,15 +8,6 @@ use Rattle.recipes.specs.Listing.{figureOf}
 use Rattle.recipes.proofs.printer.figure.Statement.{statement}
 use Rattle.recipes.proofs.printer.figure.Tie as tie
 
-at-rest-requires : tie.Need-at-rest-requires
-at-rest-requires c κs = search needs
-
-perform-requires : tie.Need-perform-requires
-perform-requires c κs = search needs
-
-cast-result : tie.Need-cast-result
-cast-result c = search needs
-
 returns : tie.Need-returns
 unfolding figureOf
 returns c =
@@ -25,4 +16,4 @@ returns c =
     (ap (λ (o : Performed). o .clocks) (p .perform .ensures ∙ ap (λ (s : State). performOf s k) (p .before .at-rest .ensures)), search needs)
 
 pub figure-spec : {M : Type 1} → statement M
-figure-spec = tie.close (tie.spec at-rest-requires perform-requires cast-result returns)
+figure-spec = tie.close (tie.spec (search needs) (search needs) (search needs) returns)

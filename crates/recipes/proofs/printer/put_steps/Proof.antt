@@ -29,21 +29,6 @@ same-length c = wrote-length (c .before .before .loop .inv .3)
 returns : tie.Need-returns Inv-loop μ-loop
 returns c = let l = c .before .before .loop in let e : l .k ≡ c .before .before .before .before .args .count = omega arith in rw e at (l .inv .3)
 
-mul-step : tie.Need-mul-step Inv-loop μ-loop
-mul-step c = search needs
-
-array-copy-out-step : tie.Need-array-copy-out-step Inv-loop μ-loop
-array-copy-out-step c = search needs
-
-put-step-requires : tie.Need-put-step-requires Inv-loop μ-loop
-put-step-requires c κs = search needs
-
-add-k : tie.Need-add-k Inv-loop μ-loop
-add-k c = search needs
-
-loop-less : tie.Need-loop-less Inv-loop μ-loop
-loop-less c = search needs
-
 loop-again : tie.Need-loop-again Inv-loop μ-loop
 loop-again c =
     let p = c .before .before in
@@ -67,16 +52,5 @@ pub put-steps-spec : {M : Type 1} → statement M
 put-steps-spec =
     tie.close
     (tie.spec
-    Inv-loop
-    μ-loop
-    loop-holds
-    same-length
-    returns
-    mul-step
-    array-copy-out-step
-    put-step-requires
-    add-k
-    loop-less
-    loop-again
-    same-length-2
+    Inv-loop μ-loop loop-holds same-length returns (search needs) (search needs) (search needs) (search needs) (search needs) loop-again same-length-2
     returns-2)

@@ -4,12 +4,6 @@ use Rattle.recipes.specs.Recipe.{lineChecked}
 use Rattle.recipes.proofs.reader.check_line.Statement.{statement}
 use Rattle.recipes.proofs.reader.check_line.Tie as tie
 
-is-copy-requires : tie.Need-is-copy-requires
-is-copy-requires c κs = search needs
-
-target-requires : tie.Need-target-requires
-target-requires c κs = search needs
-
 returns : tie.Need-returns
 unfolding lineChecked
 returns c = rw (rw (c .before .before .target .ensures) at (c .if1 .taken))
@@ -29,4 +23,4 @@ returns-3 c =
     rw (rw (t .target .ensures) at (i .if1 .left), rw (t .before .is-copy .ensures, t .target .ensures) at (c .if2 .left))
 
 pub check-line-spec : {M : Type 1} → statement M
-check-line-spec = tie.close (tie.spec is-copy-requires target-requires returns returns-2 returns-3)
+check-line-spec = tie.close (tie.spec (search needs) (search needs) returns returns-2 returns-3)

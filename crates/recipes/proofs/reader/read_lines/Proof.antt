@@ -51,35 +51,14 @@ turn c =
     let r = room (f .before) in
     rw (s .rest, f .first .ensures .1 .some (c .before .before .if2 .left), lines-next, f .first .ensures .1 .front, ← c .read-line .ensures, ← s .many)
 
-div-numbers : tie.Need-div-numbers Inv-loop μ-loop
-div-numbers c = search needs
-
-no-lines-requires : tie.Need-no-lines-requires Inv-loop μ-loop
-no-lines-requires c κs = search needs
-
 loop-holds : tie.Need-loop-holds Inv-loop μ-loop
 loop-holds c = record { ls = []; many = refl; within = search needs; short = search needs; stored = c .no-lines .ensures; rest = refl }
-
-add-refused : tie.Need-add-refused Inv-loop μ-loop
-add-refused c = search needs
-
-refused-requires : tie.Need-refused-requires Inv-loop μ-loop
-refused-requires c κs = search needs
 
 returns : tie.Need-returns Inv-loop μ-loop
 returns c =
     let s = c .before .before .before .loop .inv in
     let e : length (s .ls) ≡ 32 = sym (s .many) ∙ c .before .if1 .taken in
     rw (s .rest, lines-many _ _ _ (c .before .before .loop-test .taken) e, ← s .many) (c .refused .ensures)
-
-first-requires : tie.Need-first-requires Inv-loop μ-loop
-first-requires c κs = search needs
-
-add-refused-2 : tie.Need-add-refused-2 Inv-loop μ-loop
-add-refused-2 c = search needs
-
-refused-requires-2 : tie.Need-refused-requires-2 Inv-loop μ-loop
-refused-requires-2 c κs = search needs
 
 returns-2 : tie.Need-returns-2 Inv-loop μ-loop
 returns-2 c =
@@ -88,50 +67,8 @@ returns-2 c =
     let h = c .before .if2 .taken in
     rw (s .rest, f .first .ensures .1 .none h, f .first .ensures .1 .whole h, lines-cut _ _ _ (f .before .before .loop-test .taken) (room (f .before)), ← s .many) (c .refused2 .ensures)
 
-slice-aggregate-read-line : tie.Need-slice-aggregate-read-line Inv-loop μ-loop
-slice-aggregate-read-line c = search needs
-
-read-line-requires : tie.Need-read-line-requires Inv-loop μ-loop
-read-line-requires c κs = search needs
-
-enum-known-refusal : tie.Need-enum-known-refusal Inv-loop μ-loop
-enum-known-refusal c = search needs
-
-add-refused-3 : tie.Need-add-refused-3 Inv-loop μ-loop
-add-refused-3 c = search needs
-
-refused-requires-3 : tie.Need-refused-requires-3 Inv-loop μ-loop
-refused-requires-3 c κs = search needs
-
 returns-3 : tie.Need-returns-3 Inv-loop μ-loop
 returns-3 c = let k = c .before .before in rw (turn (k .before .before), k .refusal .given .1) (c .refused3 .ensures)
-
-enum-known-line : tie.Need-enum-known-line Inv-loop μ-loop
-enum-known-line c = search needs
-
-mul-lines : tie.Need-mul-lines Inv-loop μ-loop
-mul-lines c = search needs
-
-array-set-from-lines : tie.Need-array-set-from-lines Inv-loop μ-loop
-array-set-from-lines c = search needs
-
-add-count : tie.Need-add-count Inv-loop μ-loop
-add-count c = search needs
-
-add-left : tie.Need-add-left Inv-loop μ-loop
-add-left c = search needs
-
-sub-left : tie.Need-sub-left Inv-loop μ-loop
-sub-left c = search needs
-
-part-left-start : tie.Need-part-left-start Inv-loop μ-loop
-part-left-start c = search needs
-
-part-left-end : tie.Need-part-left-end Inv-loop μ-loop
-part-left-end c = search needs
-
-loop-less : tie.Need-loop-less Inv-loop μ-loop
-loop-less c = search needs
 
 loop-again : tie.Need-loop-again Inv-loop μ-loop
 loop-again c =
@@ -148,9 +85,6 @@ loop-again c =
       rest = rw (turn (k .before .before), k .line .given .1);
     }
 
-reading-requires : tie.Need-reading-requires Inv-loop μ-loop
-reading-requires c κs = search needs
-
 returns-4 : tie.Need-returns-4 Inv-loop μ-loop
 returns-4 c =
     let s = c .before .before .loop .inv in
@@ -160,33 +94,6 @@ pub read-lines-spec : {M : Type 1} → statement M
 read-lines-spec =
     tie.close
     (tie.spec
-    Inv-loop
-    μ-loop
-    div-numbers
-    no-lines-requires
-    loop-holds
-    add-refused
-    refused-requires
-    returns
-    first-requires
-    add-refused-2
-    refused-requires-2
-    returns-2
-    slice-aggregate-read-line
-    read-line-requires
-    enum-known-refusal
-    add-refused-3
-    refused-requires-3
-    returns-3
-    enum-known-line
-    mul-lines
-    array-set-from-lines
-    add-count
-    add-left
-    sub-left
-    part-left-start
-    part-left-end
-    loop-less
-    loop-again
-    reading-requires
-    returns-4)
+    Inv-loop μ-loop (search needs) (search needs) loop-holds (search needs) (search needs) returns (search needs) (search needs) (search needs)
+    returns-2 (search needs) (search needs) (search needs) (search needs) (search needs) returns-3 (search needs) (search needs) (search needs)
+    (search needs) (search needs) (search needs) (search needs) (search needs) (search needs) loop-again (search needs) returns-4)

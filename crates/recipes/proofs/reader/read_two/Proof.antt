@@ -20,53 +20,14 @@ two c =
     let d = c .before .before .before in
     rw (d .before .first .ensures .1 .some (d .if1 .left), c .before .first2 .ensures .1 .none (c .if2 .left), c .before .first2 .ensures .1 .whole (c .if2 .left), d .before .first .ensures .1 .front)
 
-first-requires : tie.Need-first-requires
-first-requires c κs = search needs
-
 returns : tie.Need-returns
 returns c = rw (c .before .first .ensures .1 .none (c .if1 .taken))
-
-add-second : tie.Need-add-second
-add-second c = search needs
-
-sub-second : tie.Need-sub-second
-sub-second c = search needs
-
-part-second-start : tie.Need-part-second-start
-part-second-start c = search needs
-
-part-second-end : tie.Need-part-second-end
-part-second-end c = search needs
-
-first-requires-2 : tie.Need-first-requires-2
-first-requires-2 c κs = search needs
 
 returns-2 : tie.Need-returns-2
 returns-2 c = let d = c .before .before .before in rw (d .before .first .ensures .1 .some (d .if1 .left), c .before .first2 .ensures .1 .some (c .if2 .taken))
 
-slice-aggregate-digit-of : tie.Need-slice-aggregate-digit-of
-slice-aggregate-digit-of c = search needs
-
-digit-of-requires : tie.Need-digit-of-requires
-digit-of-requires c κs = search needs
-
-enum-known-a : tie.Need-enum-known-a
-enum-known-a c = search needs
-
-enum-told : tie.Need-enum-told
-enum-told c = search needs
-
 returns-3 : tie.Need-returns-3
 returns-3 c = let d = c .before .before in rw (two (d .before .before), ← d .digit-of .ensures, c .enum-told .given .1)
-
-digit-of-requires-2 : tie.Need-digit-of-requires-2
-digit-of-requires-2 c κs = search needs
-
-enum-known-b : tie.Need-enum-known-b
-enum-known-b c = search needs
-
-enum-told-2 : tie.Need-enum-told-2
-enum-told-2 c = search needs
 
 returns-4 : tie.Need-returns-4
 returns-4 c =
@@ -84,21 +45,5 @@ pub read-two-spec : {M : Type 1} → statement M
 read-two-spec =
     tie.close
     (tie.spec
-    first-requires
-    returns
-    add-second
-    sub-second
-    part-second-start
-    part-second-end
-    first-requires-2
-    returns-2
-    slice-aggregate-digit-of
-    digit-of-requires
-    enum-known-a
-    enum-told
-    returns-3
-    digit-of-requires-2
-    enum-known-b
-    enum-told-2
-    returns-4
-    returns-5)
+    (search needs) returns (search needs) (search needs) (search needs) (search needs) (search needs) returns-2 (search needs) (search needs)
+    (search needs) (search needs) returns-3 (search needs) (search needs) (search needs) returns-4 returns-5)

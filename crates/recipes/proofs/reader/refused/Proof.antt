@@ -3,14 +3,8 @@ use borrow.Author.Needs.{needs}
 use Rattle.recipes.proofs.reader.refused.Statement.{statement}
 use Rattle.recipes.proofs.reader.refused.Tie as tie
 
-no-lines-requires : tie.Need-no-lines-requires
-no-lines-requires c κs = search needs
-
-reading-requires : tie.Need-reading-requires
-reading-requires c κs = search needs
-
 returns : tie.Need-returns
 returns c = rw (c .before .no-lines .ensures) at (c .reading .ensures)
 
 pub refused-spec : {M : Type 1} → statement M
-refused-spec = tie.close (tie.spec no-lines-requires reading-requires returns)
+refused-spec = tie.close (tie.spec (search needs) (search needs) returns)

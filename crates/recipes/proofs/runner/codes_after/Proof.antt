@@ -11,18 +11,6 @@ use Rattle.recipes.proofs.runner.codes_after.Tie as tie
 returns : tie.Need-returns
 returns c = let e : c .before .args .count ≡ 0 = omega arith in rw e
 
-sub-last : tie.Need-sub-last
-sub-last c = search needs
-
-mul-last : tie.Need-mul-last
-mul-last c = search needs
-
-array-copy-out-last : tie.Need-array-copy-out-last
-array-copy-out-last c = search needs
-
-tells-all-requires : tie.Need-tells-all-requires
-tells-all-requires c κs = search needs
-
 returns-2 : tie.Need-returns-2
 returns-2 c =
     let s = c .before .before .before .before in
@@ -36,6 +24,4 @@ returns-3 c =
     rw (← codes-of (s .args .t1) (s .args .count) (s .args .flags) (omega arith) (omega (arith, size)), sym (c .before .tells-all .ensures) ∙ c .if2 .left)
 
 pub codes-after-spec : {M : Type 1} → statement M
-codes-after-spec =
-    tie.close
-    (tie.spec returns sub-last mul-last array-copy-out-last tells-all-requires returns-2 returns-3)
+codes-after-spec = tie.close (tie.spec returns (search needs) (search needs) (search needs) (search needs) returns-2 returns-3)

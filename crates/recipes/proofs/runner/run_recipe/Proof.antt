@@ -7,24 +7,12 @@ use Rattle.recipes.proofs.RunByRule.{longs-owned, made-good, run-refuse
 use Rattle.recipes.proofs.runner.run_recipe.Statement.{statement}
 use Rattle.recipes.proofs.runner.run_recipe.Tie as tie
 
-translate-array-requires : tie.Need-translate-array-requires
-translate-array-requires c κs = search needs
-
-is-nothing-requires : tie.Need-is-nothing-requires
-is-nothing-requires c κs = search needs
-
-refused-requires : tie.Need-refused-requires
-refused-requires c κs = search needs
-
 returns : tie.Need-returns
 returns c =
     let i = c .before in
     let n = i .before in
     let t = n .before in
     c .refused .ensures ∙ run-refused _ _ _ (t .translate-array .ensures) (sym (n .is-nothing .ensures) ∙ not-true (n .is-nothing .result) (i .if1 .taken))
-
-run-array-requires : tie.Need-run-array-requires
-run-array-requires c κs = search needs
 
 codes-after-requires : tie.Need-codes-after-requires
 codes-after-requires c κs =
@@ -45,13 +33,4 @@ returns-2 c =
     run-ruled _ _ _ _ _ (t .translate-array .ensures) (sym (n .is-nothing .ensures) ∙ not-false (n .is-nothing .result) (i .if1 .left)) ok (run .run-array .ensures) (c .codes-after .ensures)
 
 pub run-recipe-spec : {M : Type 1} → statement M
-run-recipe-spec =
-    tie.close
-    (tie.spec
-    translate-array-requires
-    is-nothing-requires
-    refused-requires
-    returns
-    run-array-requires
-    codes-after-requires
-    returns-2)
+run-recipe-spec = tie.close (tie.spec (search needs) (search needs) (search needs) returns (search needs) codes-after-requires returns-2)

@@ -5,18 +5,6 @@ use Rattle.recipes.proofs.RunByRule.{text-run, text-refused}
 use Rattle.recipes.proofs.runner.run_text.Statement.{statement}
 use Rattle.recipes.proofs.runner.run_text.Tie as tie
 
-read-requires : tie.Need-read-requires
-read-requires c κs = search needs
-
-is-nothing-requires : tie.Need-is-nothing-requires
-is-nothing-requires c κs = search needs
-
-run-recipe-requires : tie.Need-run-recipe-requires
-run-recipe-requires c κs = search needs
-
-refused-requires : tie.Need-refused-requires
-refused-requires c κs = search needs
-
 returns : tie.Need-returns
 returns c = let i = c .before in let r = i .before .before .before in
     c .run-recipe .ensures ∙ rw (r .read .ensures) (text-run _ _ (rw (← r .read .ensures) (sym (i .before .is-nothing .ensures) ∙ i .if1 .taken)))
@@ -26,12 +14,4 @@ returns-2 c = let i = c .before in let r = i .before .before .before in
     c .refused .ensures ∙ rw (r .read .ensures) (text-refused _ _ (rw (← r .read .ensures) (sym (i .before .is-nothing .ensures) ∙ i .if1 .left)))
 
 pub run-text-spec : {M : Type 1} → statement M
-run-text-spec =
-    tie.close
-    (tie.spec
-    read-requires
-    is-nothing-requires
-    run-recipe-requires
-    refused-requires
-    returns
-    returns-2)
+run-text-spec = tie.close (tie.spec (search needs) (search needs) (search needs) (search needs) returns returns-2)

@@ -9,9 +9,6 @@ use Rattle.recipes.proofs.Texts.{index-before, first-at}
 use Rattle.recipes.proofs.text.first.Statement.{statement}
 use Rattle.recipes.proofs.text.first.Tie as tie
 
-find-requires : tie.Need-find-requires
-find-requires c κs = search needs
-
 found : (c : tie.After-find) → c .find .result ≡ indexOf (c .before .before .args .b) (c .before .before .args .s .now)
 unfolding slice
 found c = simp (take-length, zero-add) at (c .find .ensures .0)
@@ -20,4 +17,4 @@ returns : tie.Need-returns
 returns c = (found c ∙ index-before _ _, rw (found c) (first-at _ _ (rw (found c) at (c .find .ensures .1))))
 
 pub first-spec : {M : Type 1} → statement M
-first-spec = tie.close (tie.spec find-requires returns)
+first-spec = tie.close (tie.spec (search needs) returns)

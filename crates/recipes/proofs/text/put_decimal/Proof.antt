@@ -6,21 +6,6 @@ use Rattle.recipes.proofs.Writing.{decimal-text}
 use Rattle.recipes.proofs.text.put_decimal.Statement.{statement}
 use Rattle.recipes.proofs.text.put_decimal.Tie as tie
 
-decimal-requires : tie.Need-decimal-requires
-decimal-requires c κs = search needs
-
-array-share-prefix-digits : tie.Need-array-share-prefix-digits
-array-share-prefix-digits c = search needs
-
-slice-aggregate-put-bytes : tie.Need-slice-aggregate-put-bytes
-slice-aggregate-put-bytes c = search needs
-
-put-bytes-requires : tie.Need-put-bytes-requires
-put-bytes-requires c κs = search needs
-
-same-length : tie.Need-same-length
-same-length c = search needs
-
 returns : tie.Need-returns
 returns c =
     let p = c .before .before in
@@ -29,12 +14,4 @@ returns c =
     rw (d .decimal .ensures .1 .1 ∙ decimal-text (n .args .n) (d .decimal .result) (n .fits .n .fits) (d .decimal .ensures .1 .0)) at (p .put-bytes .ensures)
 
 pub put-decimal-spec : {M : Type 1} → statement M
-put-decimal-spec =
-    tie.close
-    (tie.spec
-    decimal-requires
-    array-share-prefix-digits
-    slice-aggregate-put-bytes
-    put-bytes-requires
-    same-length
-    returns)
+put-decimal-spec = tie.close (tie.spec (search needs) (search needs) (search needs) (search needs) (search needs) returns)

@@ -5,11 +5,8 @@ use Rattle.recipes.proofs.Texts.{same-by}
 use Rattle.recipes.proofs.text.same.Statement.{statement}
 use Rattle.recipes.proofs.text.same.Tie as tie
 
-same-requires : tie.Need-same-requires
-same-requires c κs = search needs
-
 returns : tie.Need-returns
 returns c = same-by _ _ _ (c .same .ensures .0) (c .same .ensures .1)
 
 pub same-spec : {M : Type 1} → statement M
-same-spec = tie.close (tie.spec same-requires returns)
+same-spec = tie.close (tie.spec (search needs) returns)

@@ -3,60 +3,6 @@ use borrow.Author.Needs.{needs}
 use Rattle.recipes.proofs.translator.first_step.Statement.{statement}
 use Rattle.recipes.proofs.translator.first_step.Tie as tie
 
-enum-told : tie.Need-enum-told
-enum-told c = search needs
-
-one-requires : tie.Need-one-requires
-one-requires c κs = search needs
-
-enum-told-2 : tie.Need-enum-told-2
-enum-told-2 c = search needs
-
-two-requires : tie.Need-two-requires
-two-requires c κs = search needs
-
-enum-told-3 : tie.Need-enum-told-3
-enum-told-3 c = search needs
-
-two-requires-2 : tie.Need-two-requires-2
-two-requires-2 c κs = search needs
-
-enum-told-4 : tie.Need-enum-told-4
-enum-told-4 c = search needs
-
-two-requires-3 : tie.Need-two-requires-3
-two-requires-3 c κs = search needs
-
-enum-told-5 : tie.Need-enum-told-5
-enum-told-5 c = search needs
-
-one-requires-2 : tie.Need-one-requires-2
-one-requires-2 c κs = search needs
-
-enum-told-6 : tie.Need-enum-told-6
-enum-told-6 c = search needs
-
-one-requires-3 : tie.Need-one-requires-3
-one-requires-3 c κs = search needs
-
-enum-told-7 : tie.Need-enum-told-7
-enum-told-7 c = search needs
-
-shift-requires : tie.Need-shift-requires
-shift-requires c κs = search needs
-
-enum-told-8 : tie.Need-enum-told-8
-enum-told-8 c = search needs
-
-shift-requires-2 : tie.Need-shift-requires-2
-shift-requires-2 c κs = search needs
-
-enum-told-9 : tie.Need-enum-told-9
-enum-told-9 c = search needs
-
-shift-requires-3 : tie.Need-shift-requires-3
-shift-requires-3 c κs = search needs
-
 returns : tie.Need-returns
 returns c = rw (c .before .enum-told .given .1) (c .one .ensures)
 
@@ -88,30 +34,6 @@ pub first-step-spec : {M : Type 1} → statement M
 first-step-spec =
     tie.close
     (tie.spec
-    enum-told
-    one-requires
-    enum-told-2
-    two-requires
-    enum-told-3
-    two-requires-2
-    enum-told-4
-    two-requires-3
-    enum-told-5
-    one-requires-2
-    enum-told-6
-    one-requires-3
-    enum-told-7
-    shift-requires
-    enum-told-8
-    shift-requires-2
-    enum-told-9
-    shift-requires-3
-    returns
-    returns-2
-    returns-3
-    returns-4
-    returns-5
-    returns-6
-    returns-7
-    returns-8
-    returns-9)
+    (search needs) (search needs) (search needs) (search needs) (search needs) (search needs) (search needs) (search needs) (search needs)
+    (search needs) (search needs) (search needs) (search needs) (search needs) (search needs) (search needs) (search needs) (search needs) returns
+    returns-2 returns-3 returns-4 returns-5 returns-6 returns-7 returns-8 returns-9)

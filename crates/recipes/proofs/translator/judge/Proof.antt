@@ -6,17 +6,8 @@ use Rattle.recipes.proofs.Accepting.{width-is}
 use Rattle.recipes.proofs.translator.judge.Statement.{statement}
 use Rattle.recipes.proofs.translator.judge.Tie as tie
 
-is-width-requires : tie.Need-is-width-requires
-is-width-requires c κs = search needs
-
-refused-requires : tie.Need-refused-requires
-refused-requires c κs = search needs
-
 returns : tie.Need-returns
 returns c = rw (sym (c .before .before .is-width .ensures) ∙ not-true (c .before .before .is-width .result) (c .before .if1 .taken)) (c .refused .ensures)
-
-refused-requires-2 : tie.Need-refused-requires-2
-refused-requires-2 c κs = search needs
 
 returns-2 : tie.Need-returns-2
 returns-2 c = let i = c .before .before in rw (sym (i .before .is-width .ensures) ∙ not-false (i .before .is-width .result) (i .if1 .left), lt-leb _ 32 (c .before .if2 .taken)) (c .refused2 .ensures)
@@ -28,13 +19,4 @@ returns-3 : tie.Need-returns-3
 returns-3 c = let i = c .before .before in rw (sym (i .before .is-width .ensures) ∙ not-false (i .before .is-width .result) (i .if1 .left), le-leb _ 32 (c .before .if2 .left)) (c .judge-lines .ensures)
 
 pub judge-spec : {M : Type 1} → statement M
-judge-spec =
-    tie.close
-    (tie.spec
-    is-width-requires
-    refused-requires
-    returns
-    refused-requires-2
-    returns-2
-    judge-lines-requires
-    returns-3)
+judge-spec = tie.close (tie.spec (search needs) (search needs) returns (search needs) returns-2 judge-lines-requires returns-3)

@@ -15,32 +15,11 @@ Inv-loop width count lines numbers steps₀ k₀ steps k = (k ≤ 32) × Passed 
 abbrev μ-loop : tie.MeasureT-loop
 μ-loop width count lines numbers steps₀ k₀ steps k = count - k
 
-div-numbers : tie.Need-div-numbers Inv-loop μ-loop
-div-numbers c = search needs
-
 loop-holds : tie.Need-loop-holds Inv-loop μ-loop
 loop-holds c =
     let h : length (c .args .t3) ≡ 32 = search mapped in
     let m = c .pre .1 .1 in
     (search needs, passed-none (c .args .width) (c .args .count) (c .args .t3) (omega arith))
-
-mul-line : tie.Need-mul-line Inv-loop μ-loop
-mul-line c = search needs
-
-array-copy-out-line : tie.Need-array-copy-out-line Inv-loop μ-loop
-array-copy-out-line c = search needs
-
-check-line-requires : tie.Need-check-line-requires Inv-loop μ-loop
-check-line-requires c κs = search needs
-
-enum-known-refusal : tie.Need-enum-known-refusal Inv-loop μ-loop
-enum-known-refusal c = search needs
-
-add-refused : tie.Need-add-refused Inv-loop μ-loop
-add-refused c = search needs
-
-refused-requires : tie.Need-refused-requires Inv-loop μ-loop
-refused-requires c κs = search needs
 
 returns : tie.Need-returns Inv-loop μ-loop
 returns c =
@@ -50,23 +29,8 @@ returns c =
     let l = t .before .loop in
     c .refused .ensures ∙ passed-slip _ _ _ _ _ (l .inv .1) _ (t .loop-test .taken) (sym (e .check-line .ensures) ∙ k .refusal .given .1)
 
-enum-told : tie.Need-enum-told Inv-loop μ-loop
-enum-told c = search needs
-
-steps-of-requires : tie.Need-steps-of-requires Inv-loop μ-loop
-steps-of-requires c κs = search needs
-
-cast-steps : tie.Need-cast-steps Inv-loop μ-loop
-cast-steps c = search needs
-
 add-steps : tie.Need-add-steps Inv-loop μ-loop
 add-steps c = let l = c .before .before .before .before .before .before .loop in let h = l .inv .1 .few in let m = c .steps-of .ensures .1 in search needs
-
-add-k : tie.Need-add-k Inv-loop μ-loop
-add-k c = search needs
-
-loop-less : tie.Need-loop-less Inv-loop μ-loop
-loop-less c = search needs
 
 loop-again : tie.Need-loop-again Inv-loop μ-loop
 loop-again c =
@@ -84,22 +48,5 @@ pub judge-lines-spec : {M : Type 1} → statement M
 judge-lines-spec =
     tie.close
     (tie.spec
-    Inv-loop
-    μ-loop
-    div-numbers
-    loop-holds
-    mul-line
-    array-copy-out-line
-    check-line-requires
-    enum-known-refusal
-    add-refused
-    refused-requires
-    returns
-    enum-told
-    steps-of-requires
-    cast-steps
-    add-steps
-    add-k
-    loop-less
-    loop-again
-    returns-2)
+    Inv-loop μ-loop (search needs) loop-holds (search needs) (search needs) (search needs) (search needs) (search needs) (search needs) returns
+    (search needs) (search needs) (search needs) add-steps (search needs) (search needs) loop-again returns-2)

@@ -15,9 +15,6 @@ Inv-loop width total lines steps₀ k₀ j₀ at₀ steps k j at = (length lines
 abbrev μ-loop : tie.MeasureT-loop
 μ-loop width total lines steps₀ k₀ j₀ at₀ steps k j at = total - at
 
-blank-requires : tie.Need-blank-requires Inv-loop μ-loop
-blank-requires c κs = search needs
-
 loop-holds : tie.Need-loop-holds Inv-loop μ-loop
 loop-holds c =
     let s = c .before in
@@ -62,18 +59,12 @@ steps-of-requires c κs = spot-there _ _ _ _ _ _ _ (c .before .before .before .l
 add-k : tie.Need-add-k Inv-loop μ-loop
 add-k c = let h = line-in (c .before .before .before .before) in search needs
 
-loop-less : tie.Need-loop-less Inv-loop μ-loop
-loop-less c = search needs
-
 loop-again : tie.Need-loop-again Inv-loop μ-loop
 loop-again c =
     let s = c .before in
     let t = s .before .before .before in
     let l = t .before .loop in
     (l .inv .0, rw (s .before .line-step .ensures) (laid-line _ _ _ _ _ _ _ (l .inv .1) (t .loop-test .taken) (c .if1 .taken ∙ s .steps-of .ensures .0)))
-
-loop-less-2 : tie.Need-loop-less-2 Inv-loop μ-loop
-loop-less-2 c = search needs
 
 loop-again-2 : tie.Need-loop-again-2 Inv-loop μ-loop
 loop-again-2 c =
@@ -93,21 +84,5 @@ pub lay-spec : {M : Type 1} → statement M
 lay-spec =
     tie.close
     (tie.spec
-    Inv-loop
-    μ-loop
-    blank-requires
-    loop-holds
-    mul-line
-    array-copy-out-line
-    line-step-requires
-    mul-steps
-    array-set-from-steps
-    add-at
-    add-j
-    steps-of-requires
-    add-k
-    loop-less
-    loop-again
-    loop-less-2
-    loop-again-2
-    returns)
+    Inv-loop μ-loop (search needs) loop-holds mul-line array-copy-out-line line-step-requires mul-steps array-set-from-steps add-at add-j
+    steps-of-requires add-k (search needs) loop-again (search needs) loop-again-2 returns)

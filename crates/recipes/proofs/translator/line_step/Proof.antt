@@ -19,20 +19,11 @@ source s = number-fits (s .args .width) (s .args .line .a) (s .pre .1 .0 .source
 goal : (c : tie.After-target) → c .target .result * c .before .before .before .before .before .args .width + c .before .before .before .before .before .args .width ≤ 8
 goal c = let s = c .before .before .before .before .before in rw (c .target .ensures) (number-fits (s .args .width) _ (s .pre .1 .0 .goal))
 
-index-of-requires : tie.Need-index-of-requires
-index-of-requires c κs = search needs
-
-part-of-requires : tie.Need-part-of-requires
-part-of-requires c κs = search needs
-
 offset-requires : tie.Need-offset-requires
 offset-requires c κs = rw (c .before .index-of .ensures) (cuts (c .before .before) .index)
 
 mul-from : tie.Need-mul-from
 mul-from c = let h = source (c .before .before .before .before) in search needs
-
-target-requires : tie.Need-target-requires
-target-requires c κs = search needs
 
 mul-to : tie.Need-mul-to
 mul-to c = let h = goal c in search needs
@@ -58,13 +49,4 @@ pub line-step-spec : {M : Type 1} → statement M
 line-step-spec =
     tie.close
     (tie.spec
-    index-of-requires
-    part-of-requires
-    offset-requires
-    mul-from
-    target-requires
-    mul-to
-    add-p
-    add-q
-    register-step-requires
-    returns)
+    (search needs) (search needs) offset-requires mul-from (search needs) mul-to add-p add-q register-step-requires returns)

@@ -6,9 +6,6 @@ use Rattle.recipes.proofs.Places.{copy-steps, other-steps}
 use Rattle.recipes.proofs.translator.part_of.Statement.{statement}
 use Rattle.recipes.proofs.translator.part_of.Tie as tie
 
-is-copy-requires : tie.Need-is-copy-requires
-is-copy-requires c κs = search needs
-
 returns : tie.Need-returns
 returns c = rw (copy-steps _ (sym (c .before .is-copy .ensures) ∙ c .if1 .taken))
 
@@ -16,4 +13,4 @@ returns-2 : tie.Need-returns-2
 returns-2 c = rw (other-steps _ (sym (c .before .is-copy .ensures) ∙ c .if1 .left), mod-one)
 
 pub part-of-spec : {M : Type 1} → statement M
-part-of-spec = tie.close (tie.spec is-copy-requires returns returns-2)
+part-of-spec = tie.close (tie.spec (search needs) returns returns-2)

@@ -5,23 +5,11 @@ use Rattle.recipes.proofs.Places.{copy-clears, own-step}
 use Rattle.recipes.proofs.translator.register_step.Statement.{statement}
 use Rattle.recipes.proofs.translator.register_step.Tie as tie
 
-is-copy-requires : tie.Need-is-copy-requires
-is-copy-requires c κs = search needs
-
-one-requires : tie.Need-one-requires
-one-requires c κs = search needs
-
 returns : tie.Need-returns
 returns c =
     let i = c .before in
     let a = i .before .before .args in
     c .one .ensures ∙ copy-clears (a .verb) _ (a .part) (a .q) (rw (i .before .is-copy .ensures) at (i .if1 .taken))
-
-first-step-requires : tie.Need-first-step-requires
-first-step-requires c κs = search needs
-
-other-step-requires : tie.Need-other-step-requires
-other-step-requires c κs = search needs
 
 returns-2 : tie.Need-returns-2
 returns-2 c =
@@ -38,13 +26,4 @@ returns-3 c =
     rw (c .before .if2 .left) (c .other-step .ensures ∙ own-step (a .verb) _ (a .part) (a .q) (s .pre) (rw (i .before .is-copy .ensures) at (i .if1 .left)))
 
 pub register-step-spec : {M : Type 1} → statement M
-register-step-spec =
-    tie.close
-    (tie.spec
-    is-copy-requires
-    one-requires
-    returns
-    first-step-requires
-    other-step-requires
-    returns-2
-    returns-3)
+register-step-spec = tie.close (tie.spec (search needs) (search needs) returns (search needs) (search needs) returns-2 returns-3)

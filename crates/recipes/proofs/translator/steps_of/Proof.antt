@@ -6,12 +6,6 @@ use Rattle.recipes.proofs.Places.{copy-steps, other-steps}
 use Rattle.recipes.proofs.translator.steps_of.Statement.{statement}
 use Rattle.recipes.proofs.translator.steps_of.Tie as tie
 
-is-copy-requires : tie.Need-is-copy-requires
-is-copy-requires c κs = search needs
-
-mul-result : tie.Need-mul-result
-mul-result c = search needs
-
 returns : tie.Need-returns
 returns c = (rw (copy-steps _ (sym (c .before .is-copy .ensures) ∙ c .if1 .taken)), search needs)
 
@@ -19,4 +13,4 @@ returns-2 : tie.Need-returns-2
 returns-2 c = (rw (other-steps _ (sym (c .before .is-copy .ensures) ∙ c .if1 .left), one-mul), search needs)
 
 pub steps-of-spec : {M : Type 1} → statement M
-steps-of-spec = tie.close (tie.spec is-copy-requires mul-result returns returns-2)
+steps-of-spec = tie.close (tie.spec (search needs) (search needs) returns returns-2)

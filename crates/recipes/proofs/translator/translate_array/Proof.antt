@@ -7,9 +7,6 @@ use Rattle.recipes.proofs.Settling.{ready, laid}
 use Rattle.recipes.proofs.translator.translate_array.Statement.{statement}
 use Rattle.recipes.proofs.translator.translate_array.Tie as tie
 
-judge-requires : tie.Need-judge-requires
-judge-requires c κs = search needs
-
 lay-requires : tie.Need-lay-requires
 lay-requires c κs = let s = c .before .before in let h : length (s .args .recipe .lines) ≡ 32 = search mapped in rw (c .before .judge .ensures) (ready (s .args .recipe) h)
 
@@ -17,4 +14,4 @@ returns : tie.Need-returns
 returns c = let j = c .before .before in rw (c .lay .ensures, j .judge .ensures) (laid (j .before .args .recipe))
 
 pub translate-array-spec : {M : Type 1} → statement M
-translate-array-spec = tie.close (tie.spec judge-requires lay-requires returns)
+translate-array-spec = tie.close (tie.spec (search needs) lay-requires returns)

@@ -3,11 +3,8 @@ use borrow.Author.Needs.{needs}
 use Rattle.recipes.proofs.types.is_nothing.Statement.{statement}
 use Rattle.recipes.proofs.types.is_nothing.Tie as tie
 
-number-requires : tie.Need-number-requires
-number-requires c κs = search needs
-
 returns : tie.Need-returns
 returns c = rw (c .number .ensures)
 
 pub is-nothing-spec : {M : Type 1} → statement M
-is-nothing-spec = tie.close (tie.spec number-requires returns)
+is-nothing-spec = tie.close (tie.spec (search needs) returns)

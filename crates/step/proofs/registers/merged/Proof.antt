@@ -2,27 +2,6 @@ use borrow.Author.Needs.{needs}
 use Rattle.step.proofs.registers.merged.Statement.{statement}
 use Rattle.step.proofs.registers.merged.Tie as tie
 
-enum-told : tie.Need-enum-told
-enum-told c = search needs
-
-mul-result : tie.Need-mul-result
-mul-result c = search needs
-
-add-result : tie.Need-add-result
-add-result c = search needs
-
-enum-told-2 : tie.Need-enum-told-2
-enum-told-2 c = search needs
-
-mul-result-2 : tie.Need-mul-result-2
-mul-result-2 c = search needs
-
-add-result-2 : tie.Need-add-result-2
-add-result-2 c = search needs
-
-enum-told-3 : tie.Need-enum-told-3
-enum-told-3 c = search needs
-
 returns : tie.Need-returns
 returns c = rw (c .enum-told .given .1)
 
@@ -36,13 +15,4 @@ pub merged-spec : {M : Type 1} → statement M
 merged-spec =
     tie.close
     (tie.spec
-    enum-told
-    mul-result
-    add-result
-    enum-told-2
-    mul-result-2
-    add-result-2
-    enum-told-3
-    returns
-    returns-2
-    returns-3)
+    (search needs) (search needs) (search needs) (search needs) (search needs) (search needs) (search needs) returns returns-2 returns-3)

@@ -7,15 +7,6 @@ use borrow.Author.Needs.{needs}
 use Rattle.step.proofs.registers.read.Statement.{statement}
 use Rattle.step.proofs.registers.read.Tie as tie
 
-wide-requires : tie.Need-wide-requires
-wide-requires c κs = search needs
-
-mul-result : tie.Need-mul-result
-mul-result c = search needs
-
-shared-slice-read-result : tie.Need-shared-slice-read-result
-shared-slice-read-result c = search needs
-
 returns : tie.Need-returns
 returns c = cc
 
@@ -25,5 +16,4 @@ returns-2 c =
     let h : length xs ≤ c .before .before .before .args .r = omega arith in sym (List·getD-eq-default xs 0 h)
 
 pub read-spec : {M : Type 1} → statement M
-read-spec =
-    tie.close (tie.spec wide-requires mul-result shared-slice-read-result returns returns-2)
+read-spec = tie.close (tie.spec (search needs) (search needs) (search needs) returns returns-2)

@@ -8,18 +8,6 @@ use borrow.Author.Needs.{needs}
 use Rattle.step.proofs.registers.write.Statement.{statement}
 use Rattle.step.proofs.registers.write.Tie as tie
 
-wide-requires : tie.Need-wide-requires
-wide-requires c κs = search needs
-
-mul-registers : tie.Need-mul-registers
-mul-registers c = search needs
-
-slice-write-registers : tie.Need-slice-write-registers
-slice-write-registers c = search needs
-
-same-length : tie.Need-same-length
-same-length c = search needs
-
 returns : tie.Need-returns
 returns c = cc
 
@@ -29,6 +17,4 @@ returns-2 c =
     let h : length xs ≤ c .before .before .before .args .r = omega arith in sym (set-out _ _ _ h)
 
 pub write-spec : {M : Type 1} → statement M
-write-spec =
-    tie.close
-    (tie.spec wide-requires mul-registers slice-write-registers same-length returns returns-2)
+write-spec = tie.close (tie.spec (search needs) (search needs) (search needs) (search needs) returns returns-2)

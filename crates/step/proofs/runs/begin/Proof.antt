@@ -5,15 +5,6 @@ use borrow.Author.Needs.{needs}
 use Rattle.step.proofs.runs.begin.Statement.{statement}
 use Rattle.step.proofs.runs.begin.Tie as tie
 
-most-requires : tie.Need-most-requires
-most-requires c κs = search needs
-
-arrive-requires : tie.Need-arrive-requires
-arrive-requires c κs = search needs
-
-halt-requires : tie.Need-halt-requires
-halt-requires c κs = search needs
-
 returns : tie.Need-returns
 returns c =
     let s = c .before .before .before .args in
@@ -24,4 +15,4 @@ returns-2 c =
     let s = c .before .before .args in begun (s .len) (s .start) (s .budget) (s .flags) (rw (lt-leb _ _ (c .before .if1 .left)) (c .halt .ensures)) (omega arith)
 
 pub begin-spec : {M : Type 1} → statement M
-begin-spec = tie.close (tie.spec most-requires arrive-requires halt-requires returns returns-2)
+begin-spec = tie.close (tie.spec (search needs) (search needs) (search needs) returns returns-2)

@@ -3,12 +3,6 @@ use borrow.Author.Needs.{needs}
 use Rattle.step.proofs.runs.most.Statement.{statement}
 use Rattle.step.proofs.runs.most.Tie as tie
 
-sub-rest : tie.Need-sub-rest
-sub-rest c = search needs
-
-cast-result : tie.Need-cast-result
-cast-result c = search needs
-
 returns : tie.Need-returns
 returns c = rw (lt-ltb _ _ (c .if1 .taken))
 
@@ -16,4 +10,4 @@ returns-2 : tie.Need-returns-2
 returns-2 c = rw (le-ltb _ _ (c .if1 .left))
 
 pub most-spec : {M : Type 1} → statement M
-most-spec = tie.close (tie.spec sub-rest cast-result returns returns-2)
+most-spec = tie.close (tie.spec (search needs) (search needs) returns returns-2)

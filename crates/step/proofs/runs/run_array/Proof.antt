@@ -31,12 +31,6 @@ few c = omega (arith, lesser-le (c .before .before .before .before .before .befo
 whole : (c : tie.In-loop Inv-loop μ-loop) → length (c .before .before .before .before .before .before .before .args .t1) ≡ 256
 whole c = omega arith
 
-lesser-requires : tie.Need-lesser-requires Inv-loop μ-loop
-lesser-requires c κs = search needs
-
-begin-requires : tie.Need-begin-requires Inv-loop μ-loop
-begin-requires c κs = search needs
-
 loop-holds : tie.Need-loop-holds Inv-loop μ-loop
 loop-holds c = (refl, (refl, (omega arith, c .begin .ensures .1)))
 
@@ -77,15 +71,4 @@ pub run-array-spec : {M : Type 1} → statement M
 run-array-spec =
     tie.close
     (tie.spec
-    Inv-loop
-    μ-loop
-    lesser-requires
-    begin-requires
-    loop-holds
-    mul-step
-    array-copy-out-step
-    advance-requires
-    loop-less
-    loop-again
-    ended-requires
-    returns)
+    Inv-loop μ-loop (search needs) (search needs) loop-holds mul-step array-copy-out-step advance-requires loop-less loop-again ended-requires returns)

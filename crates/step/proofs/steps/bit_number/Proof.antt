@@ -2,18 +2,6 @@ use borrow.Author.Needs.{needs}
 use Rattle.step.proofs.steps.bit_number.Statement.{statement}
 use Rattle.step.proofs.steps.bit_number.Tie as tie
 
-enum-known-c : tie.Need-enum-known-c
-enum-known-c c = search needs
-
-wide-requires : tie.Need-wide-requires
-wide-requires c κs = search needs
-
-enum-known-c-2 : tie.Need-enum-known-c-2
-enum-known-c-2 c = search needs
-
-read-requires : tie.Need-read-requires
-read-requires c κs = search needs
-
 returns : tie.Need-returns
 returns c a f = simp (c .wide .ensures, c .before .before .c .given .1)
 
@@ -21,5 +9,4 @@ returns-2 : tie.Need-returns-2
 returns-2 c a f = simp (c .read .ensures, c .before .before .before .c2 .given .1)
 
 pub bit-number-spec : {M : Type 1} → statement M
-bit-number-spec =
-    tie.close (tie.spec enum-known-c wide-requires enum-known-c-2 read-requires returns returns-2)
+bit-number-spec = tie.close (tie.spec (search needs) (search needs) (search needs) (search needs) returns returns-2)

@@ -2,15 +2,6 @@ use borrow.Author.Needs.{needs}
 use Rattle.step.proofs.steps.count_within.Statement.{statement}
 use Rattle.step.proofs.steps.count_within.Tie as tie
 
-enum-known-c : tie.Need-enum-known-c
-enum-known-c c = search needs
-
-within-requires : tie.Need-within-requires
-within-requires c κs = search needs
-
-enum-told : tie.Need-enum-told
-enum-told c = search needs
-
 returns : tie.Need-returns
 returns c = simp (c .within .ensures, c .before .before .c .given .1)
 
@@ -18,4 +9,4 @@ returns-2 : tie.Need-returns-2
 returns-2 c = simp (c .enum-told .given .1)
 
 pub count-within-spec : {M : Type 1} → statement M
-count-within-spec = tie.close (tie.spec enum-known-c within-requires enum-told returns returns-2)
+count-within-spec = tie.close (tie.spec (search needs) (search needs) (search needs) returns returns-2)

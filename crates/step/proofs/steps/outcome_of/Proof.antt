@@ -2,18 +2,6 @@ use borrow.Author.Needs.{needs}
 use Rattle.step.proofs.steps.outcome_of.Statement.{statement}
 use Rattle.step.proofs.steps.outcome_of.Tie as tie
 
-enum-told : tie.Need-enum-told
-enum-told c = search needs
-
-enum-told-2 : tie.Need-enum-told-2
-enum-told-2 c = search needs
-
-enum-told-3 : tie.Need-enum-told-3
-enum-told-3 c = search needs
-
-enum-told-4 : tie.Need-enum-told-4
-enum-told-4 c = search needs
-
 returns : tie.Need-returns
 returns c = cc
 
@@ -27,6 +15,4 @@ returns-4 : tie.Need-returns-4
 returns-4 c = cc
 
 pub outcome-of-spec : {M : Type 1} → statement M
-outcome-of-spec =
-    tie.close
-    (tie.spec enum-told enum-told-2 enum-told-3 enum-told-4 returns returns-2 returns-3 returns-4)
+outcome-of-spec = tie.close (tie.spec (search needs) (search needs) (search needs) (search needs) returns returns-2 returns-3 returns-4)

@@ -3,57 +3,6 @@ use borrow.Author.Needs.{needs}
 use Rattle.step.proofs.steps.perform_on.Statement.{statement}
 use Rattle.step.proofs.steps.perform_on.Tie as tie
 
-enum-known-form : tie.Need-enum-known-form
-enum-known-form c = search needs
-
-step-two-requires : tie.Need-step-two-requires
-step-two-requires c κs = search needs
-
-enum-known-form-2 : tie.Need-enum-known-form-2
-enum-known-form-2 c = search needs
-
-step-address-requires : tie.Need-step-address-requires
-step-address-requires c κs = search needs
-
-enum-known-form-3 : tie.Need-enum-known-form-3
-enum-known-form-3 c = search needs
-
-enum-known-p : tie.Need-enum-known-p
-enum-known-p c = search needs
-
-step-quick-requires : tie.Need-step-quick-requires
-step-quick-requires c κs = search needs
-
-enum-known-p-2 : tie.Need-enum-known-p-2
-enum-known-p-2 c = search needs
-
-step-quick-address-requires : tie.Need-step-quick-address-requires
-step-quick-address-requires c κs = search needs
-
-enum-known-form-4 : tie.Need-enum-known-form-4
-enum-known-form-4 c = search needs
-
-step-one-requires : tie.Need-step-one-requires
-step-one-requires c κs = search needs
-
-enum-known-form-5 : tie.Need-enum-known-form-5
-enum-known-form-5 c = search needs
-
-step-shift-requires : tie.Need-step-shift-requires
-step-shift-requires c κs = search needs
-
-enum-known-form-6 : tie.Need-enum-known-form-6
-enum-known-form-6 c = search needs
-
-step-bit-requires : tie.Need-step-bit-requires
-step-bit-requires c κs = search needs
-
-enum-known-form-7 : tie.Need-enum-known-form-7
-enum-known-form-7 c = search needs
-
-step-chk-requires : tie.Need-step-chk-requires
-step-chk-requires c κs = search needs
-
 returns : tie.Need-returns
 returns c = rw (c .before .before .before .form .given .1) (c .step-two .ensures (now (c .before .before .before .before .before .args .a)))
 
@@ -82,28 +31,6 @@ pub perform-on-spec : {M : Type 1} → statement M
 perform-on-spec =
     tie.close
     (tie.spec
-    enum-known-form
-    step-two-requires
-    enum-known-form-2
-    step-address-requires
-    enum-known-form-3
-    enum-known-p
-    step-quick-requires
-    enum-known-p-2
-    step-quick-address-requires
-    enum-known-form-4
-    step-one-requires
-    enum-known-form-5
-    step-shift-requires
-    enum-known-form-6
-    step-bit-requires
-    enum-known-form-7
-    step-chk-requires
-    returns
-    returns-2
-    returns-3
-    returns-4
-    returns-5
-    returns-6
-    returns-7
-    returns-8)
+    (search needs) (search needs) (search needs) (search needs) (search needs) (search needs) (search needs) (search needs) (search needs)
+    (search needs) (search needs) (search needs) (search needs) (search needs) (search needs) (search needs) (search needs) returns returns-2
+    returns-3 returns-4 returns-5 returns-6 returns-7 returns-8)

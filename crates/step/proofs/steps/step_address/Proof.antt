@@ -5,42 +5,6 @@ use borrow.Author.Needs.{needs}
 use Rattle.step.proofs.steps.step_address.Statement.{statement}
 use Rattle.step.proofs.steps.step_address.Tie as tie
 
-register-there-requires : tie.Need-register-there-requires
-register-there-requires c κs = search needs
-
-both-requires : tie.Need-both-requires
-both-requires c κs = search needs
-
-not-byte-requires : tie.Need-not-byte-requires
-not-byte-requires c κs = search needs
-
-refusal-requires : tie.Need-refusal-requires
-refusal-requires c κs = search needs
-
-enum-known-fault : tie.Need-enum-known-fault
-enum-known-fault c = search needs
-
-refused-requires : tie.Need-refused-requires
-refused-requires c κs = search needs
-
-enum-told : tie.Need-enum-told
-enum-told c = search needs
-
-register-value-requires : tie.Need-register-value-requires
-register-value-requires c κs = search needs
-
-read-requires : tie.Need-read-requires
-read-requires c κs = search needs
-
-on-address-requires : tie.Need-on-address-requires
-on-address-requires c κs = search needs
-
-write-requires : tie.Need-write-requires
-write-requires c κs = search needs
-
-said-requires : tie.Need-said-requires
-said-requires c κs = search needs
-
 returns : tie.Need-returns
 returns c =
     let start = c .before .before .before .before .before .before .before .before .before in
@@ -55,17 +19,5 @@ pub step-address-spec : {M : Type 1} → statement M
 step-address-spec =
     tie.close
     (tie.spec
-    register-there-requires
-    both-requires
-    not-byte-requires
-    refusal-requires
-    enum-known-fault
-    refused-requires
-    enum-told
-    register-value-requires
-    read-requires
-    on-address-requires
-    write-requires
-    said-requires
-    returns
-    returns-2)
+    (search needs) (search needs) (search needs) (search needs) (search needs) (search needs) (search needs) (search needs) (search needs)
+    (search needs) (search needs) (search needs) returns returns-2)

@@ -5,48 +5,6 @@ use borrow.Author.Needs.{needs}
 use Rattle.step.proofs.steps.step_bit.Statement.{statement}
 use Rattle.step.proofs.steps.step_bit.Tie as tie
 
-count-there-requires : tie.Need-count-there-requires
-count-there-requires c κs = search needs
-
-both-requires : tie.Need-both-requires
-both-requires c κs = search needs
-
-is-long-requires : tie.Need-is-long-requires
-is-long-requires c κs = search needs
-
-count-within-requires : tie.Need-count-within-requires
-count-within-requires c κs = search needs
-
-refusal-requires : tie.Need-refusal-requires
-refusal-requires c κs = search needs
-
-enum-known-fault : tie.Need-enum-known-fault
-enum-known-fault c = search needs
-
-refused-requires : tie.Need-refused-requires
-refused-requires c κs = search needs
-
-enum-told : tie.Need-enum-told
-enum-told c = search needs
-
-bit-number-requires : tie.Need-bit-number-requires
-bit-number-requires c κs = search needs
-
-read-requires : tie.Need-read-requires
-read-requires c κs = search needs
-
-bit-requires : tie.Need-bit-requires
-bit-requires c κs = search needs
-
-merged-requires : tie.Need-merged-requires
-merged-requires c κs = search needs
-
-write-requires : tie.Need-write-requires
-write-requires c κs = search needs
-
-said-requires : tie.Need-said-requires
-said-requires c κs = search needs
-
 returns : tie.Need-returns
 returns c a =
     let start = c .before .before .before .before .before .before .before .before .before .before in
@@ -61,19 +19,5 @@ pub step-bit-spec : {M : Type 1} → statement M
 step-bit-spec =
     tie.close
     (tie.spec
-    count-there-requires
-    both-requires
-    is-long-requires
-    count-within-requires
-    refusal-requires
-    enum-known-fault
-    refused-requires
-    enum-told
-    bit-number-requires
-    read-requires
-    bit-requires
-    merged-requires
-    write-requires
-    said-requires
-    returns
-    returns-2)
+    (search needs) (search needs) (search needs) (search needs) (search needs) (search needs) (search needs) (search needs) (search needs)
+    (search needs) (search needs) (search needs) (search needs) (search needs) returns returns-2)

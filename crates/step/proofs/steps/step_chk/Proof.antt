@@ -5,39 +5,6 @@ use borrow.Author.Needs.{needs}
 use Rattle.step.proofs.steps.step_chk.Statement.{statement}
 use Rattle.step.proofs.steps.step_chk.Tie as tie
 
-both-requires : tie.Need-both-requires
-both-requires c κs = search needs
-
-is-word-requires : tie.Need-is-word-requires
-is-word-requires c κs = search needs
-
-refusal-requires : tie.Need-refusal-requires
-refusal-requires c κs = search needs
-
-enum-known-fault : tie.Need-enum-known-fault
-enum-known-fault c = search needs
-
-refused-requires : tie.Need-refused-requires
-refused-requires c κs = search needs
-
-enum-told : tie.Need-enum-told
-enum-told c = search needs
-
-read-requires : tie.Need-read-requires
-read-requires c κs = search needs
-
-read-requires-2 : tie.Need-read-requires-2
-read-requires-2 c κs = search needs
-
-exec-chk-requires : tie.Need-exec-chk-requires
-exec-chk-requires c κs = search needs
-
-outcome-of-requires : tie.Need-outcome-of-requires
-outcome-of-requires c κs = search needs
-
-said-requires : tie.Need-said-requires
-said-requires c κs = search needs
-
 returns : tie.Need-returns
 returns c a =
     let start = c .before .before .before .before .before .before .before .before .before in
@@ -52,16 +19,5 @@ pub step-chk-spec : {M : Type 1} → statement M
 step-chk-spec =
     tie.close
     (tie.spec
-    both-requires
-    is-word-requires
-    refusal-requires
-    enum-known-fault
-    refused-requires
-    enum-told
-    read-requires
-    read-requires-2
-    exec-chk-requires
-    outcome-of-requires
-    said-requires
-    returns
-    returns-2)
+    (search needs) (search needs) (search needs) (search needs) (search needs) (search needs) (search needs) (search needs) (search needs)
+    (search needs) (search needs) returns returns-2)

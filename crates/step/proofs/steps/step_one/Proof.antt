@@ -5,36 +5,6 @@ use borrow.Author.Needs.{needs}
 use Rattle.step.proofs.steps.step_one.Statement.{statement}
 use Rattle.step.proofs.steps.step_one.Tie as tie
 
-one-size-requires : tie.Need-one-size-requires
-one-size-requires c κs = search needs
-
-refusal-requires : tie.Need-refusal-requires
-refusal-requires c κs = search needs
-
-enum-known-fault : tie.Need-enum-known-fault
-enum-known-fault c = search needs
-
-refused-requires : tie.Need-refused-requires
-refused-requires c κs = search needs
-
-enum-told : tie.Need-enum-told
-enum-told c = search needs
-
-read-requires : tie.Need-read-requires
-read-requires c κs = search needs
-
-one-requires : tie.Need-one-requires
-one-requires c κs = search needs
-
-merged-requires : tie.Need-merged-requires
-merged-requires c κs = search needs
-
-write-requires : tie.Need-write-requires
-write-requires c κs = search needs
-
-said-requires : tie.Need-said-requires
-said-requires c κs = search needs
-
 returns : tie.Need-returns
 returns c a =
     let start = c .before .before .before .before .before .before .before in
@@ -49,15 +19,5 @@ pub step-one-spec : {M : Type 1} → statement M
 step-one-spec =
     tie.close
     (tie.spec
-    one-size-requires
-    refusal-requires
-    enum-known-fault
-    refused-requires
-    enum-told
-    read-requires
-    one-requires
-    merged-requires
-    write-requires
-    said-requires
-    returns
-    returns-2)
+    (search needs) (search needs) (search needs) (search needs) (search needs) (search needs) (search needs) (search needs) (search needs)
+    (search needs) returns returns-2)

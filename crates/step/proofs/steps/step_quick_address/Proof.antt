@@ -5,39 +5,6 @@ use borrow.Author.Needs.{needs}
 use Rattle.step.proofs.steps.step_quick_address.Statement.{statement}
 use Rattle.step.proofs.steps.step_quick_address.Tie as tie
 
-not-byte-requires : tie.Need-not-byte-requires
-not-byte-requires c κs = search needs
-
-within-requires : tie.Need-within-requires
-within-requires c κs = search needs
-
-refusal-requires : tie.Need-refusal-requires
-refusal-requires c κs = search needs
-
-enum-known-fault : tie.Need-enum-known-fault
-enum-known-fault c = search needs
-
-refused-requires : tie.Need-refused-requires
-refused-requires c κs = search needs
-
-enum-told : tie.Need-enum-told
-enum-told c = search needs
-
-read-requires : tie.Need-read-requires
-read-requires c κs = search needs
-
-wide-requires : tie.Need-wide-requires
-wide-requires c κs = search needs
-
-quick-address-requires : tie.Need-quick-address-requires
-quick-address-requires c κs = search needs
-
-write-requires : tie.Need-write-requires
-write-requires c κs = search needs
-
-said-requires : tie.Need-said-requires
-said-requires c κs = search needs
-
 returns : tie.Need-returns
 returns c d =
     let start = c .before .before .before .before .before .before .before .before in
@@ -52,16 +19,5 @@ pub step-quick-address-spec : {M : Type 1} → statement M
 step-quick-address-spec =
     tie.close
     (tie.spec
-    not-byte-requires
-    within-requires
-    refusal-requires
-    enum-known-fault
-    refused-requires
-    enum-told
-    read-requires
-    wide-requires
-    quick-address-requires
-    write-requires
-    said-requires
-    returns
-    returns-2)
+    (search needs) (search needs) (search needs) (search needs) (search needs) (search needs) (search needs) (search needs) (search needs)
+    (search needs) (search needs) returns returns-2)

@@ -5,45 +5,6 @@ use borrow.Author.Needs.{needs}
 use Rattle.step.proofs.steps.step_shift.Statement.{statement}
 use Rattle.step.proofs.steps.step_shift.Tie as tie
 
-count-there-requires : tie.Need-count-there-requires
-count-there-requires c κs = search needs
-
-both-requires : tie.Need-both-requires
-both-requires c κs = search needs
-
-count-within-requires : tie.Need-count-within-requires
-count-within-requires c κs = search needs
-
-refusal-requires : tie.Need-refusal-requires
-refusal-requires c κs = search needs
-
-enum-known-fault : tie.Need-enum-known-fault
-enum-known-fault c = search needs
-
-refused-requires : tie.Need-refused-requires
-refused-requires c κs = search needs
-
-enum-told : tie.Need-enum-told
-enum-told c = search needs
-
-shift-count-requires : tie.Need-shift-count-requires
-shift-count-requires c κs = search needs
-
-read-requires : tie.Need-read-requires
-read-requires c κs = search needs
-
-shift-requires : tie.Need-shift-requires
-shift-requires c κs = search needs
-
-merged-requires : tie.Need-merged-requires
-merged-requires c κs = search needs
-
-write-requires : tie.Need-write-requires
-write-requires c κs = search needs
-
-said-requires : tie.Need-said-requires
-said-requires c κs = search needs
-
 returns : tie.Need-returns
 returns c a =
     let start = c .before .before .before .before .before .before .before .before .before in
@@ -58,18 +19,5 @@ pub step-shift-spec : {M : Type 1} → statement M
 step-shift-spec =
     tie.close
     (tie.spec
-    count-there-requires
-    both-requires
-    count-within-requires
-    refusal-requires
-    enum-known-fault
-    refused-requires
-    enum-told
-    shift-count-requires
-    read-requires
-    shift-requires
-    merged-requires
-    write-requires
-    said-requires
-    returns
-    returns-2)
+    (search needs) (search needs) (search needs) (search needs) (search needs) (search needs) (search needs) (search needs) (search needs)
+    (search needs) (search needs) (search needs) (search needs) returns returns-2)
