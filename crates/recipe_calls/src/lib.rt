@@ -1,5 +1,5 @@
 // Recipes, listings and runs for Rust and C: every argument and every answer is a number, or a row of numbers that is lent.
-// bindings/c/gromavelush.h declares these functions and shows how steps and lines are laid out in words.
+// The crate recipe_archive exports these functions; bindings/c/gromavelush.h shows how steps and lines are laid out in words.
 //
 // Every function takes every input: none has a `requires`. A word that names no step stands for one that is refused
 // with 2; a recipe's word that names no verb is refused with 5 and its text line.
@@ -46,8 +46,7 @@ fn long(x: u32) -> u64
 }
 
 // Reads a recipe text. `lines` gets its 32 lines, `told` the refusal number, its text line, the width and the number of lines.
-#[no_mangle]
-pub extern "C" fn recipe_read(text: &[u8], lines: &mut [u32; 32], told: &mut [u64; 4])
+pub fn recipe_read(text: &[u8], lines: &mut [u32; 32], told: &mut [u64; 4])
     ensures { λ _. ⌜ rowLeft (now (lines .exit)) (now (told .exit)) ≡ readWords (now (text .entry)) ⌝ }
 {
     let reading = read(text);
@@ -64,8 +63,7 @@ pub extern "C" fn recipe_read(text: &[u8], lines: &mut [u32; 32], told: &mut [u6
 }
 
 // Translates a recipe into a listing. `told` gets the refusal number, its text line and the number of steps.
-#[no_mangle]
-pub extern "C" fn recipe_translate(
+pub fn recipe_translate(
     width: u8,
     count: usize,
     lines: &[u32; 32],
@@ -108,8 +106,7 @@ fn end_words(end: End) -> [u64; 3]
 
 // Runs the first 256 steps of a listing from a place, with a budget. `told` gets the end, the trap's class or the refusal's
 // number, the place of either, the next place, the steps done and the sum of their figures.
-#[no_mangle]
-pub extern "C" fn listing_run(
+pub fn listing_run(
     listing: &[u64],
     d: &mut [u32; 8],
     a: &mut [u32; 8],
@@ -148,16 +145,14 @@ pub extern "C" fn listing_run(
 }
 
 // Prints the first 256 steps of a listing, as the program `recipe` does, and answers how many bytes it wrote.
-#[no_mangle]
-pub extern "C" fn listing_print(width: u8, listing: &[u64], out: &mut [u8]) -> usize
+pub fn listing_print(width: u8, listing: &[u64], out: &mut [u8]) -> usize
     ensures { λ r. ⌜ written (now (out .exit)) r ≡ writing (now (out .entry)) (listingText width (firstOf (now (listing .entry)))) ⌝ }
 {
     print(width, steps_of(listing), listing.len(), out)
 }
 
 // What the program `recipe` prints for a text.
-#[no_mangle]
-pub extern "C" fn recipe_answer(text: &[u8], out: &mut [u8]) -> usize
+pub fn recipe_answer(text: &[u8], out: &mut [u8]) -> usize
     ensures { λ r. ⌜ written (now (out .exit)) r ≡ writing (now (out .entry)) (answerOf (now (text .entry))) ⌝ }
 {
     answer(text, out)
@@ -185,8 +180,7 @@ fn ccr_after(x: bool, codes: Codes) -> u8
 
 // Reads a recipe text and runs it on a register set. `told` gets the refusal number, its text line, the flags that are promised,
 // the steps and the sum of their figures. A flag that is not promised is left 0.
-#[no_mangle]
-pub extern "C" fn recipe_run(
+pub fn recipe_run(
     text: &[u8],
     d: &mut [u32; 8],
     a: &mut [u32; 8],

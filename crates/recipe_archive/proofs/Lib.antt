@@ -1,0 +1,2 @@
+-- The law of the contracts.
+pub mod Determined
