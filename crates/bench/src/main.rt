@@ -14,8 +14,6 @@ mod words;
 
 use input::read_text;
 use libc::STDOUT_FILENO;
-use pen::Pen;
-use pen::at_start;
 use pen::within;
 use recipes::printer::print_refusal;
 use recipes::reader::read;
@@ -26,13 +24,12 @@ use words::Asked;
 use words::read_words;
 
 // A recipe that was read is always translated.
-fn put_run(out: &mut [u8], asked: Asked, text: &[u8], recipe: Recipe) -> Pen {
+fn put_run(out: &mut [u8], asked: Asked, text: &[u8], recipe: Recipe) -> usize {
     let made = translate_array(recipe);
-    let pen = at_start();
     if asked.rows {
-        rows::put_run(out, pen, asked, made)
+        rows::put_run(out, asked, made)
     } else {
-        table::put_run(out, pen, asked, text, recipe, made)
+        table::put_run(out, asked, text, recipe, made)
     }
 }
 
@@ -45,8 +42,7 @@ fn answer(out: &mut [u8], asked: Asked, text: &[u8]) -> usize {
     if number(refusal) != 0 {
         return print_refusal(refusal, reading.line, out);
     }
-    let pen = put_run(out, asked, text, recipe);
-    pen.at
+    put_run(out, asked, text, recipe)
 }
 
 fn main() {

@@ -74,27 +74,27 @@ fn words_of(width: u8, d: [u32; 8], k: u8) -> [u32; 4] {
 }
 
 // The names of the registers of number k, the highest first, a blank before each.
-pub(crate) fn put_names(out: &mut [u8], pen: Pen, width: u8, k: u8) -> Pen {
+pub(crate) fn put_names(pen: Pen, width: u8, k: u8) -> Pen {
     let low = lowest_of(width, k);
     let mut next = pen;
     let mut i = width;
     while 0 < i {
         i -= 1;
-        next = put(out, next, b" D");
-        next = put_decimal(out, next, (low + wide(i)) as u64);
+        next = put(next, b" D");
+        next = put_decimal(next, (low + wide(i)) as u64);
     }
     next
 }
 
 // The words of number k, the highest first, a blank before each.
-pub(crate) fn put_words(out: &mut [u8], pen: Pen, width: u8, d: [u32; 8], k: u8) -> Pen {
+pub(crate) fn put_words(pen: Pen, width: u8, d: [u32; 8], k: u8) -> Pen {
     let low = lowest_of(width, k);
     let mut next = pen;
     let mut i = width;
     while 0 < i {
         i -= 1;
-        next = put_byte(out, next, BLANK);
-        next = put_hex(out, next, word_of(width, d, low, i));
+        next = put_byte(next, BLANK);
+        next = put_hex(next, word_of(width, d, low, i));
     }
     next
 }
@@ -133,7 +133,7 @@ fn is_zero(words: [u32; 4]) -> bool {
 }
 
 // The whole value of number k. 2^128 - 1 has 39 digits.
-pub(crate) fn put_value(out: &mut [u8], pen: Pen, width: u8, d: [u32; 8], k: u8) -> Pen {
+pub(crate) fn put_value(pen: Pen, width: u8, d: [u32; 8], k: u8) -> Pen {
     let mut digits = [0u8; 39];
     let mut words = words_of(width, d, k);
     let mut i = 39;
@@ -146,5 +146,5 @@ pub(crate) fn put_value(out: &mut [u8], pen: Pen, width: u8, d: [u32; 8], k: u8)
             break;
         }
     }
-    put(out, pen, &digits[i..])
+    put(pen, &digits[i..])
 }

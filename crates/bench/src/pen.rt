@@ -1,5 +1,5 @@
-// Writing text by lines and columns into a lent slice. Each writer takes the pen and answers where it stands next; what has no
-// room is left off.
+// Writing text by lines and columns. A writer takes the pen with the line so far, and answers it with more behind; `put_line`
+// writes a line that is done into a lent slice. What has no room is left off.
 ghost use Prim.Native.Nat.{_≤_};
 ghost use lib.ListN.{length};
 ghost use Rattle.io.specs.Counts.{Counts};
@@ -13,92 +13,103 @@ pub(crate) const BLANK: u8 = 32;
 
 const HEX: [u8; 16] = *b"0123456789ABCDEF";
 
-// The place to write at, and where its line begins.
+// A line as far as it is written, and the place to write at. The longest, which says how to go on, has less than 250 bytes.
 pub(crate) struct Pen {
+    pub line: [u8; 256],
     pub at: usize,
-    pub line: usize,
 }
 
+// A line with nothing in it.
 pub(crate) fn at_start() -> Pen {
-    Pen { at: 0, line: 0 }
+    Pen {
+        line: [0; 256],
+        at: 0,
+    }
 }
 
-pub(crate) fn put_byte(out: &mut [u8], pen: Pen, b: u8) -> Pen {
+pub(crate) fn put_byte(pen: Pen, b: u8) -> Pen {
     let at = pen.at;
-    if at < out.len() {
-        out[at] = b;
-        return Pen {
-            at: at + 1,
-            line: pen.line,
-        };
+    let mut line = pen.line;
+    if at < 256 {
+        line[at] = b;
+        return Pen { line, at: at + 1 };
     }
     pen
 }
 
-pub(crate) fn put(out: &mut [u8], pen: Pen, text: &[u8]) -> Pen {
+pub(crate) fn put(pen: Pen, text: &[u8]) -> Pen {
     let mut next = pen;
     let mut i = 0;
     while i < text.len() {
-        next = put_byte(out, next, text[i]);
+        next = put_byte(next, text[i]);
         i += 1;
     }
     next
 }
 
-fn put_blanks(out: &mut [u8], pen: Pen, count: usize) -> Pen {
+// Blanks up to a column of the line; none where it is reached.
+pub(crate) fn tab(pen: Pen, column: usize) -> Pen {
     let mut next = pen;
-    let mut left = count;
-    while 0 < left {
-        next = put_byte(out, next, BLANK);
-        left -= 1;
+    let mut at = pen.at;
+    while at < column {
+        next = put_byte(next, BLANK);
+        at += 1;
     }
     next
 }
 
-// Blanks up to a column of the line; none where it is reached.
-pub(crate) fn tab(out: &mut [u8], pen: Pen, column: usize) -> Pen {
-    let done = std::num::wrapping_sub_usize(pen.at, pen.line);
-    if done < column {
-        return put_blanks(out, pen, column - done);
+// A byte at a place of `out`; answers the next place.
+fn store(out: &mut [u8], at: usize, b: u8) -> usize {
+    if at < out.len() {
+        out[at] = b;
+        return at + 1;
     }
-    pen
+    at
 }
 
-pub(crate) fn end_line(out: &mut [u8], pen: Pen) -> Pen {
-    let next = put_byte(out, pen, NEWLINE);
-    Pen {
-        at: next.at,
-        line: next.at,
+// Writes a line that is done, and a byte 10 behind it, at a place of `out`, and answers the next place.
+pub(crate) fn put_line(out: &mut [u8], at: usize, pen: Pen) -> usize {
+    let ended = put_byte(pen, NEWLINE);
+    let line = ended.line;
+    let mut next = at;
+    let mut i = 0;
+    while i < 256 {
+        if ended.at <= i {
+            return next;
+        }
+        next = store(out, next, line[i]);
+        i += 1;
     }
+    next
 }
 
-pub(crate) fn put_decimal(out: &mut [u8], pen: Pen, n: u64) -> Pen {
+pub(crate) fn put_decimal(pen: Pen, n: u64) -> Pen {
     let mut digits = [0u8; 20];
     let k = io::decimal(n, &mut digits);
-    put(out, pen, &digits[..k])
+    put(pen, &digits[..k])
 }
 
 // A number whose last digit stands before a column.
-pub(crate) fn put_right(out: &mut [u8], pen: Pen, column: usize, n: u64) -> Pen {
+pub(crate) fn put_right(pen: Pen, column: usize, n: u64) -> Pen {
     let mut digits = [0u8; 20];
     let k = io::decimal(n, &mut digits);
-    let next = tab(out, pen, std::num::wrapping_sub_usize(column, k));
-    put(out, next, &digits[..k])
+    let next = tab(pen, std::num::wrapping_sub_usize(column, k));
+    put(next, &digits[..k])
 }
 
 // A number and what it counts, with an s unless it is 1; `before` stands before it.
-pub(crate) fn put_count(out: &mut [u8], pen: Pen, before: &[u8], n: u64, what: &[u8]) -> Pen {
-    let next = put(out, pen, before);
-    let next = put_decimal(out, next, n);
-    let next = put(out, next, what);
+pub(crate) fn put_count(pen: Pen, before: &[u8], n: u64, what: &[u8]) -> Pen {
+    let next = put(pen, before);
+    let next = put_decimal(next, n);
+    let next = put(next, what);
     if n == 1 {
         return next;
     }
-    put_byte(out, next, b's')
+    put_byte(next, b's')
 }
 
 // Eight digits.
-pub(crate) fn put_hex(out: &mut [u8], pen: Pen, value: u32) -> Pen {
+pub(crate) fn put_hex(pen: Pen, value: u32) -> Pen {
     let mut digits = [0u8; 8];
     let mut rest = value;
     let mut i = 8;
@@ -108,22 +119,22 @@ pub(crate) fn put_hex(out: &mut [u8], pen: Pen, value: u32) -> Pen {
         digits[i] = HEX[digit];
         rest /= 16;
     }
-    put(out, pen, &digits)
+    put(pen, &digits)
 }
 
 // A flag as 0 or 1, and a byte before it.
-fn put_flag(out: &mut [u8], pen: Pen, mark: u8, flag: bool) -> Pen {
-    let next = put_byte(out, pen, mark);
-    put_byte(out, next, if flag { b'1' } else { b'0' })
+fn put_flag(pen: Pen, mark: u8, flag: bool) -> Pen {
+    let next = put_byte(pen, mark);
+    put_byte(next, if flag { b'1' } else { b'0' })
 }
 
 // The five flags, X N Z V C, a byte before each.
-pub(crate) fn put_flags(out: &mut [u8], pen: Pen, mark: u8, flags: Flags) -> Pen {
-    let next = put_flag(out, pen, mark, flags.x);
-    let next = put_flag(out, next, mark, flags.n);
-    let next = put_flag(out, next, mark, flags.z);
-    let next = put_flag(out, next, mark, flags.v);
-    put_flag(out, next, mark, flags.c)
+pub(crate) fn put_flags(pen: Pen, mark: u8, flags: Flags) -> Pen {
+    let next = put_flag(pen, mark, flags.x);
+    let next = put_flag(next, mark, flags.n);
+    let next = put_flag(next, mark, flags.z);
+    let next = put_flag(next, mark, flags.v);
+    put_flag(next, mark, flags.c)
 }
 
 // The first n bytes of `out`, or all of them where it has no more.
@@ -164,7 +175,7 @@ pub(crate) fn next_field(text: &[u8], from: usize) -> usize {
 }
 
 // The field of a text that begins at a place.
-pub(crate) fn put_field(out: &mut [u8], pen: Pen, text: &[u8], from: usize) -> Pen {
+pub(crate) fn put_field(pen: Pen, text: &[u8], from: usize) -> Pen {
     let mut next = pen;
     let mut at = from;
     while at < text.len() {
@@ -172,14 +183,14 @@ pub(crate) fn put_field(out: &mut [u8], pen: Pen, text: &[u8], from: usize) -> P
         if (b == TAB) | (b == NEWLINE) {
             return next;
         }
-        next = put_byte(out, next, b);
+        next = put_byte(next, b);
         at += 1;
     }
     next
 }
 
 // The rest of a line of a text, with blanks for tabs.
-pub(crate) fn put_fields(out: &mut [u8], pen: Pen, text: &[u8], from: usize) -> Pen {
+pub(crate) fn put_fields(pen: Pen, text: &[u8], from: usize) -> Pen {
     let mut next = pen;
     let mut at = from;
     while at < text.len() {
@@ -187,7 +198,7 @@ pub(crate) fn put_fields(out: &mut [u8], pen: Pen, text: &[u8], from: usize) -> 
         if b == NEWLINE {
             return next;
         }
-        next = put_byte(out, next, if b == TAB { BLANK } else { b });
+        next = put_byte(next, if b == TAB { BLANK } else { b });
         at += 1;
     }
     next

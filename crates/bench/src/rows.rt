@@ -5,12 +5,13 @@ use crate::course::one_more;
 use crate::course::whole_run;
 use crate::pen::Pen;
 use crate::pen::TAB;
-use crate::pen::end_line;
+use crate::pen::at_start;
 use crate::pen::put;
 use crate::pen::put_byte;
 use crate::pen::put_decimal;
 use crate::pen::put_flags;
 use crate::pen::put_hex;
+use crate::pen::put_line;
 use crate::words::Asked;
 use recipes::types::Listing;
 use step::runs::End;
@@ -19,57 +20,52 @@ use step::steps::Fault;
 use step::steps::number;
 
 // Eight registers, a tab before each.
-fn put_registers(out: &mut [u8], pen: Pen, registers: [u32; 8]) -> Pen {
+fn put_registers(pen: Pen, registers: [u32; 8]) -> Pen {
     let mut next = pen;
     let mut r = 0;
     while r < 8 {
-        next = put_byte(out, next, TAB);
-        next = put_hex(out, next, registers[r]);
+        next = put_byte(next, TAB);
+        next = put_hex(next, registers[r]);
         r += 1;
     }
     next
 }
 
-fn put_row(out: &mut [u8], pen: Pen, ran: Ran) -> Pen {
+fn row(ran: Ran) -> Pen {
     let state = ran.state;
     let d = state.d;
     let a = state.a;
     let flags = state.flags;
-    let next = put_decimal(out, pen, ran.next as u64);
-    let next = put_registers(out, next, d);
-    let next = put_registers(out, next, a);
-    let next = put_flags(out, next, TAB, flags);
-    end_line(out, next)
+    let next = put_decimal(at_start(), ran.next as u64);
+    let next = put_registers(next, d);
+    let next = put_registers(next, a);
+    put_flags(next, TAB, flags)
 }
 
-fn put_rows(out: &mut [u8], pen: Pen, asked: Asked, made: Listing, steps: u32) -> Pen {
+fn put_rows(out: &mut [u8], asked: Asked, made: Listing, steps: u32) -> usize {
     let mut ran = not_begun(asked);
-    let mut next = put_row(out, pen, ran);
+    let mut next = put_line(out, 0, row(ran));
     let mut left = steps;
     while 0 < left {
         ran = one_more(made, ran);
-        next = put_row(out, next, ran);
+        next = put_line(out, next, row(ran));
         left -= 1;
     }
     next
 }
 
-fn put_refusal(out: &mut [u8], pen: Pen, fault: Fault, place: usize) -> Pen {
-    let next = put(out, pen, b"refused\t");
-    let next = put_decimal(out, next, number(fault) as u64);
-    let next = put_byte(out, next, TAB);
-    let next = put_decimal(out, next, place as u64);
-    end_line(out, next)
+fn refusal(fault: Fault, place: usize) -> Pen {
+    let next = put(at_start(), b"refused\t");
+    let next = put_decimal(next, number(fault) as u64);
+    let next = put_byte(next, TAB);
+    put_decimal(next, place as u64)
 }
 
-pub(crate) fn put_run(out: &mut [u8], pen: Pen, asked: Asked, made: Listing) -> Pen {
+pub(crate) fn put_run(out: &mut [u8], asked: Asked, made: Listing) -> usize {
     let ran = whole_run(made, asked);
     let end = ran.end;
-    let steps = ran.steps;
-    match end {
-        End::Finished => put_rows(out, pen, asked, made, steps),
-        End::Budget => put_rows(out, pen, asked, made, steps),
-        End::Trapped(_, _) => put_rows(out, pen, asked, made, steps),
-        End::Refused(fault, place) => put_refusal(out, pen, fault, place),
+    if let End::Refused(fault, place) = end {
+        return put_line(out, 0, refusal(fault, place));
     }
+    put_rows(out, asked, made, ran.steps)
 }

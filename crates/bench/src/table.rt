@@ -14,7 +14,7 @@ use crate::numbers::put_value;
 use crate::numbers::put_words;
 use crate::pen::BLANK;
 use crate::pen::Pen;
-use crate::pen::end_line;
+use crate::pen::at_start;
 use crate::pen::line_start;
 use crate::pen::next_field;
 use crate::pen::put;
@@ -25,6 +25,7 @@ use crate::pen::put_field;
 use crate::pen::put_fields;
 use crate::pen::put_flags;
 use crate::pen::put_hex;
+use crate::pen::put_line;
 use crate::pen::put_right;
 use crate::pen::tab;
 use crate::pen::within;
@@ -57,150 +58,139 @@ fn value_column(width: u8) -> usize {
     WORDS + 1 + 9 * width as usize
 }
 
-fn put_sizes(out: &mut [u8], pen: Pen, width: u8, lines: usize, steps: usize) -> Pen {
-    let next = put(out, pen, b"width ");
-    let next = put_decimal(out, next, width as u64);
-    let next = put_count(out, next, b", ", lines as u64, b" line");
-    let next = put_count(out, next, b", ", steps as u64, b" step");
-    end_line(out, next)
+fn sizes(width: u8, lines: usize, steps: usize) -> Pen {
+    let next = put(at_start(), b"width ");
+    let next = put_decimal(next, width as u64);
+    let next = put_count(next, b", ", lines as u64, b" line");
+    put_count(next, b", ", steps as u64, b" step")
 }
 
 // Which registers the numbers are.
-fn put_numbering(out: &mut [u8], pen: Pen, width: u8) -> Pen {
-    let mut next = put(out, pen, b"numbers: 0 is");
-    next = put_names(out, next, width, 0);
+fn numbering(width: u8) -> Pen {
+    let mut next = put(at_start(), b"numbers: 0 is");
+    next = put_names(next, width, 0);
     let mut k = 1;
     while k < count_of(width) {
-        next = put(out, next, b", ");
-        next = put_decimal(out, next, k as u64);
-        next = put(out, next, b" is");
-        next = put_names(out, next, width, k);
+        next = put(next, b", ");
+        next = put_decimal(next, k as u64);
+        next = put(next, b" is");
+        next = put_names(next, width, k);
         k += 1;
     }
-    end_line(out, next)
+    next
 }
 
 fn are_zero(registers: [u32; 8]) -> bool {
-    (registers[0] == 0)
-        & (registers[1] == 0)
-        & (registers[2] == 0)
-        & (registers[3] == 0)
-        & (registers[4] == 0)
-        & (registers[5] == 0)
-        & (registers[6] == 0)
-        & (registers[7] == 0)
+    let mut r = 0;
+    while r < 8 {
+        if registers[r] != 0 {
+            return false;
+        }
+        r += 1;
+    }
+    true
 }
 
 // A line where an address register is not 0.
-fn put_address(out: &mut [u8], pen: Pen, a: [u32; 8]) -> Pen {
+fn put_address(out: &mut [u8], at: usize, a: [u32; 8]) -> usize {
     if are_zero(a) {
-        return pen;
+        return at;
     }
-    let next = put(out, pen, b"address registers, which no step changes:");
-    let next = put_settings(out, next, b'A', a);
-    end_line(out, next)
+    let next = put(at_start(), b"address registers, which no step changes:");
+    put_line(out, at, put_settings(next, b'A', a))
 }
 
 // The heading of the columns.
-fn put_heading(out: &mut [u8], pen: Pen, width: u8) -> Pen {
+fn heading(width: u8) -> Pen {
     let next = put(
-        out,
-        pen,
+        at_start(),
         b"place  step          line         changed      X N Z V C  clocks  number  words",
     );
-    let next = tab(out, next, value_column(width));
-    let next = put(out, next, b"value");
-    end_line(out, next)
+    let next = tab(next, value_column(width));
+    put(next, b"value")
 }
 
 // Number k as it stands: its digit, its words and its value.
-fn put_number(out: &mut [u8], pen: Pen, width: u8, d: [u32; 8], k: u8) -> Pen {
-    let next = put_right(out, pen, NUMBER, k as u64);
-    let next = tab(out, next, WORDS - 1);
-    let next = put_words(out, next, width, d, k);
-    let next = tab(out, next, value_column(width));
-    let next = put_value(out, next, width, d, k);
-    end_line(out, next)
+fn put_number(pen: Pen, width: u8, d: [u32; 8], k: u8) -> Pen {
+    let next = put_right(pen, NUMBER, k as u64);
+    let next = tab(next, WORDS - 1);
+    let next = put_words(next, width, d, k);
+    let next = tab(next, value_column(width));
+    put_value(next, width, d, k)
 }
 
-// All numbers, a row for each.
-fn put_numbers(out: &mut [u8], pen: Pen, width: u8, d: [u32; 8]) -> Pen {
-    let mut next = pen;
+// All numbers, a row for each; the first row is begun.
+fn put_numbers(out: &mut [u8], at: usize, begun: Pen, width: u8, d: [u32; 8]) -> usize {
+    let mut next = at;
+    let mut pen = begun;
     let mut k = 0;
     while k < count_of(width) {
-        next = put_number(out, next, width, d, k);
+        next = put_line(out, next, put_number(pen, width, d, k));
+        pen = at_start();
         k += 1;
     }
     next
 }
 
 // The flags and the clocks so far.
-fn put_flags_and_clocks(out: &mut [u8], pen: Pen, flags: Flags, clocks: u64) -> Pen {
-    let next = tab(out, pen, FLAGS - 1);
-    let next = put_flags(out, next, BLANK, flags);
-    put_right(out, next, CLOCKS, clocks)
+fn put_flags_and_clocks(pen: Pen, flags: Flags, clocks: u64) -> Pen {
+    let next = tab(pen, FLAGS - 1);
+    let next = put_flags(next, BLANK, flags);
+    put_right(next, CLOCKS, clocks)
 }
 
 // How a run stands at its start or its end.
-fn put_standing(out: &mut [u8], pen: Pen, name: &[u8], width: u8, ran: Ran) -> Pen {
+fn put_standing(out: &mut [u8], at: usize, name: &[u8], width: u8, ran: Ran) -> usize {
     let state = ran.state;
     let d = state.d;
     let flags = state.flags;
-    let next = put(out, pen, name);
-    let next = put_flags_and_clocks(out, next, flags, ran.clocks);
-    put_numbers(out, next, width, d)
+    let next = put(at_start(), name);
+    let next = put_flags_and_clocks(next, flags, ran.clocks);
+    put_numbers(out, at, next, width, d)
 }
 
 // A step's fields, from the listing as it is printed: the place stands before them.
-fn put_step(out: &mut [u8], pen: Pen, printed: &[u8], place: usize) -> Pen {
-    let mut next = put_right(out, pen, PLACE, place as u64);
+fn put_step(pen: Pen, printed: &[u8], place: usize) -> Pen {
+    let mut next = put_right(pen, PLACE, place as u64);
     let mut at = line_start(printed, std::num::wrapping_add_usize(place, 1));
     let mut i = 0;
     while i < 4 {
         at = next_field(printed, at);
-        next = tab(out, next, STEP[i]);
-        next = put_field(out, next, printed, at);
+        next = tab(next, STEP[i]);
+        next = put_field(next, printed, at);
         i += 1;
     }
     next
 }
 
 // Recipe line k, from 0, is line k + 1 of the text, from 0, and is called k + 2.
-fn put_line(out: &mut [u8], pen: Pen, text: &[u8], k: usize) -> Pen
+fn put_text(pen: Pen, text: &[u8], k: usize) -> Pen
     requires { ⌜ k ≤ 31 ⌝ }
 {
-    let next = put_right(out, pen, LINE + 2, k as u64 + 2);
-    let next = put_byte(out, next, BLANK);
-    put_fields(out, next, text, line_start(text, k + 1))
+    let next = put_right(pen, LINE + 2, k as u64 + 2);
+    let next = put_byte(next, BLANK);
+    put_fields(next, text, line_start(text, k + 1))
 }
 
 // The first register that differs, with its new value.
-fn put_changed(out: &mut [u8], pen: Pen, before: [u32; 8], after: [u32; 8]) -> Pen {
-    let next = tab(out, pen, CHANGED);
+fn put_changed(pen: Pen, before: [u32; 8], after: [u32; 8]) -> Pen {
+    let next = tab(pen, CHANGED);
     let mut r = 0;
     while r < 8 {
         let value = after[r];
         if before[r] != value {
-            let next = put_byte(out, next, b'D');
-            let next = put_decimal(out, next, r as u64);
-            let next = put_byte(out, next, BLANK);
-            return put_hex(out, next, value);
+            let next = put_byte(next, b'D');
+            let next = put_decimal(next, r as u64);
+            let next = put_byte(next, BLANK);
+            return put_hex(next, value);
         }
         r += 1;
     }
-    put_byte(out, next, b'-')
+    put_byte(next, b'-')
 }
 
 // The row of a step: `before` has halted at its place, `after` behind it.
-fn put_row(
-    out: &mut [u8],
-    pen: Pen,
-    text: &[u8],
-    printed: &[u8],
-    recipe: Recipe,
-    before: Ran,
-    after: Ran,
-) -> Pen {
+fn row(text: &[u8], printed: &[u8], recipe: Recipe, before: Ran, after: Ran) -> Pen {
     let lines = recipe.lines;
     let old = before.state;
     let old_d = old.d;
@@ -209,29 +199,29 @@ fn put_row(
     let flags = state.flags;
     let k = line_at(recipe, before.next);
     let line = lines[k];
-    let next = put_step(out, pen, printed, before.next);
-    let next = put_line(out, next, text, k);
-    let next = put_changed(out, next, old_d, d);
-    let next = put_flags_and_clocks(out, next, flags, after.clocks);
-    put_number(out, next, recipe.width, d, target(line))
+    let next = put_step(at_start(), printed, before.next);
+    let next = put_text(next, text, k);
+    let next = put_changed(next, old_d, d);
+    let next = put_flags_and_clocks(next, flags, after.clocks);
+    put_number(next, recipe.width, d, target(line))
 }
 
 fn put_rows(
     out: &mut [u8],
-    pen: Pen,
+    at: usize,
     text: &[u8],
     printed: &[u8],
     recipe: Recipe,
     made: Listing,
     start: Ran,
     steps: u32,
-) -> Pen {
-    let mut next = pen;
+) -> usize {
+    let mut next = at;
     let mut ran = start;
     let mut left = steps;
     while 0 < left {
         let after = one_more(made, ran);
-        next = put_row(out, next, text, printed, recipe, ran, after);
+        next = put_line(out, next, row(text, printed, recipe, ran, after));
         ran = after;
         left -= 1;
     }
@@ -239,33 +229,32 @@ fn put_rows(
 }
 
 // What stands above the start.
-fn put_top(out: &mut [u8], pen: Pen, asked: Asked, recipe: Recipe, steps: usize) -> Pen {
+fn put_top(out: &mut [u8], asked: Asked, recipe: Recipe, steps: usize) -> usize {
     let width = recipe.width;
     let state = asked.state;
     let a = state.a;
-    let next = put_sizes(out, pen, width, recipe.count, steps);
-    let next = put_numbering(out, next, width);
+    let next = put_line(out, 0, sizes(width, recipe.count, steps));
+    let next = put_line(out, next, numbering(width));
     let next = put_address(out, next, a);
-    let next = end_line(out, next);
-    put_heading(out, next, width)
+    let next = put_line(out, next, at_start());
+    put_line(out, next, heading(width))
 }
 
 // What stands below the steps.
-fn put_bottom(out: &mut [u8], pen: Pen, width: u8, ran: Ran) -> Pen {
-    let next = put_standing(out, pen, b"end", width, ran);
-    let next = end_line(out, next);
+fn put_bottom(out: &mut [u8], at: usize, width: u8, ran: Ran) -> usize {
+    let next = put_standing(out, at, b"end", width, ran);
+    let next = put_line(out, next, at_start());
     put_ending(out, next, ran)
 }
 
 // The whole table. The array has room for any listing, as that of the program `recipe` has.
 pub(crate) fn put_run(
     out: &mut [u8],
-    pen: Pen,
     asked: Asked,
     text: &[u8],
     recipe: Recipe,
     made: Listing,
-) -> Pen {
+) -> usize {
     let width = recipe.width;
     let listing = made.steps;
     let mut printed = [0u8; 20480];
@@ -273,7 +262,7 @@ pub(crate) fn put_run(
     let n = within(n, &printed);
     let start = not_begun(asked);
     let ran = whole_run(made, asked);
-    let next = put_top(out, pen, asked, recipe, made.count);
+    let next = put_top(out, asked, recipe, made.count);
     let next = put_standing(out, next, b"start", width, start);
     let next = put_rows(
         out,

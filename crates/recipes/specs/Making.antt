@@ -19,7 +19,9 @@ use Rattle.recipes.specs.declared.types.Translated.{Translated}
 use Rattle.recipes.specs.declared.types.Listing.{Listing}
 use Rattle.recipes.specs.declared.types.Codes.{Codes}
 use Rattle.recipes.specs.declared.types.Codes.the-variants.{Open, Known}
-use Rattle.recipes.specs.Text.{before, after, parts}
+use Rattle.recipes.specs.declared.printer.Operand.{Operand}
+use Rattle.recipes.specs.declared.printer.Operand.the-variants.{Numbered, Absent}
+use Rattle.recipes.specs.Text.{before, after, parts, ascii, decimalOf}
 use Rattle.recipes.specs.Recipe.{recipeLines, Names, Accepted}
 use Rattle.recipes.specs.Listing.{firstStep, otherStep, withClr, highestFirst, stepsAt, stepsOf, linesPass, tested}
 
@@ -49,6 +51,11 @@ reach at n room = max at (min (at + n) room)
 pub record Wrote (old : List ℕ) (at : ℕ) (text : List ℕ) (out : List ℕ) (r : ℕ) : Type 0 where
   pub bytes : out ≡ sets old at text
   pub next : r ≡ reach at (length text) (length old)
+
+-- an operand's field: a mark and a number, or none
+abbrev pub operandText : Operand → List ℕ
+operandText (Numbered mark n) = mark ∷ decimalOf n
+operandText Absent = ascii "-"
 
 -- ---- one step of a line
 

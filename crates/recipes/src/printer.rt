@@ -3,16 +3,19 @@
 ghost use mathlib.Core.Path.{_≡_};
 ghost use Prim.Native.Nat.{_<_, _^_};
 ghost use mathlib.Core.Bool.{cond};
+ghost use mathlib.Core.List.{_∷_, _++_};
 ghost use lib.Dec.{ltb};
 ghost use lib.ListN.{take};
-ghost use Rattle.recipes.specs.Text.{written, writing};
-ghost use Rattle.recipes.specs.Making.{Wrote};
+ghost use Rattle.recipes.specs.Text.{before, written, writing};
+ghost use Rattle.recipes.specs.Making.{Wrote, operandText};
 ghost use Rattle.recipes.specs.Listing.{atRest, figureOf, clocksOf};
-ghost use Rattle.recipes.specs.Printer.{twoName, addressName, quickName, oneName, shiftName, bitName, operationText, sizeText, registerText, countText, sourceText, destinationText, stepText, stepsText};
+ghost use Rattle.recipes.specs.Printer.{twoName, addressName, quickName, oneName, shiftName, bitName, operationText, sizeText, registerText, countText, sourceText, destinationText, stepText, stepsText, fieldOf, newline};
 ghost use Rattle.recipes.specs.Printer.{listingText, refusalText, printedOf, answerOf};
 use super::reader::read;
+use super::text::BLANK;
 use super::text::NEWLINE;
 use super::text::TAB;
+use super::text::first;
 use super::text::put_byte;
 use super::text::put_bytes;
 use super::text::put_decimal;
@@ -37,142 +40,169 @@ use step::steps::Step;
 use step::steps::TwoOp;
 use step::steps::perform;
 
-fn put_two_name(out: &mut [u8], at: usize, op: TwoOp) -> usize
-    ensures { λ r. ⌜ Wrote (now (out .entry)) at (twoName op) (now (out .exit)) r ⌝ }
+// An operation's name, filled up with blanks to four bytes. So are the names below.
+fn two_name(op: TwoOp) -> [u8; 4]
+    ensures { λ r. ⌜ before 32 r ≡ twoName op ⌝ }
 {
     match op {
-        TwoOp::Add => put_bytes(out, at, b"ADD"),
-        TwoOp::Sub => put_bytes(out, at, b"SUB"),
-        TwoOp::Cmp => put_bytes(out, at, b"CMP"),
-        TwoOp::Addx => put_bytes(out, at, b"ADDX"),
-        TwoOp::Subx => put_bytes(out, at, b"SUBX"),
+        TwoOp::Add => [b'A', b'D', b'D', b' '],
+        TwoOp::Sub => [b'S', b'U', b'B', b' '],
+        TwoOp::Cmp => [b'C', b'M', b'P', b' '],
+        TwoOp::Addx => [b'A', b'D', b'D', b'X'],
+        TwoOp::Subx => [b'S', b'U', b'B', b'X'],
     }
 }
 
-fn put_address_name(out: &mut [u8], at: usize, op: AddressOp) -> usize
-    ensures { λ r. ⌜ Wrote (now (out .entry)) at (addressName op) (now (out .exit)) r ⌝ }
+fn address_name(op: AddressOp) -> [u8; 4]
+    ensures { λ r. ⌜ before 32 r ≡ addressName op ⌝ }
 {
     match op {
-        AddressOp::Adda => put_bytes(out, at, b"ADDA"),
-        AddressOp::Suba => put_bytes(out, at, b"SUBA"),
-        AddressOp::Cmpa => put_bytes(out, at, b"CMPA"),
+        AddressOp::Adda => [b'A', b'D', b'D', b'A'],
+        AddressOp::Suba => [b'S', b'U', b'B', b'A'],
+        AddressOp::Cmpa => [b'C', b'M', b'P', b'A'],
     }
 }
 
-fn put_quick_name(out: &mut [u8], at: usize, op: QuickOp) -> usize
-    ensures { λ r. ⌜ Wrote (now (out .entry)) at (quickName op) (now (out .exit)) r ⌝ }
+fn quick_name(op: QuickOp) -> [u8; 4]
+    ensures { λ r. ⌜ before 32 r ≡ quickName op ⌝ }
 {
     match op {
-        QuickOp::Addq => put_bytes(out, at, b"ADDQ"),
-        QuickOp::Subq => put_bytes(out, at, b"SUBQ"),
+        QuickOp::Addq => [b'A', b'D', b'D', b'Q'],
+        QuickOp::Subq => [b'S', b'U', b'B', b'Q'],
     }
 }
 
-fn put_one_name(out: &mut [u8], at: usize, op: OneOp) -> usize
-    ensures { λ r. ⌜ Wrote (now (out .entry)) at (oneName op) (now (out .exit)) r ⌝ }
+fn one_name(op: OneOp) -> [u8; 4]
+    ensures { λ r. ⌜ before 32 r ≡ oneName op ⌝ }
 {
     match op {
-        OneOp::Clr => put_bytes(out, at, b"CLR"),
-        OneOp::Neg => put_bytes(out, at, b"NEG"),
-        OneOp::Negx => put_bytes(out, at, b"NEGX"),
-        OneOp::Not => put_bytes(out, at, b"NOT"),
-        OneOp::Ext => put_bytes(out, at, b"EXT"),
+        OneOp::Clr => [b'C', b'L', b'R', b' '],
+        OneOp::Neg => [b'N', b'E', b'G', b' '],
+        OneOp::Negx => [b'N', b'E', b'G', b'X'],
+        OneOp::Not => [b'N', b'O', b'T', b' '],
+        OneOp::Ext => [b'E', b'X', b'T', b' '],
     }
 }
 
-fn put_shift_name(out: &mut [u8], at: usize, op: ShiftOp) -> usize
-    ensures { λ r. ⌜ Wrote (now (out .entry)) at (shiftName op) (now (out .exit)) r ⌝ }
+fn shift_name(op: ShiftOp) -> [u8; 4]
+    ensures { λ r. ⌜ before 32 r ≡ shiftName op ⌝ }
 {
     match op {
-        ShiftOp::Asl => put_bytes(out, at, b"ASL"),
-        ShiftOp::Asr => put_bytes(out, at, b"ASR"),
-        ShiftOp::Lsl => put_bytes(out, at, b"LSL"),
-        ShiftOp::Lsr => put_bytes(out, at, b"LSR"),
-        ShiftOp::Rol => put_bytes(out, at, b"ROL"),
-        ShiftOp::Ror => put_bytes(out, at, b"ROR"),
-        ShiftOp::Roxl => put_bytes(out, at, b"ROXL"),
-        ShiftOp::Roxr => put_bytes(out, at, b"ROXR"),
+        ShiftOp::Asl => [b'A', b'S', b'L', b' '],
+        ShiftOp::Asr => [b'A', b'S', b'R', b' '],
+        ShiftOp::Lsl => [b'L', b'S', b'L', b' '],
+        ShiftOp::Lsr => [b'L', b'S', b'R', b' '],
+        ShiftOp::Rol => [b'R', b'O', b'L', b' '],
+        ShiftOp::Ror => [b'R', b'O', b'R', b' '],
+        ShiftOp::Roxl => [b'R', b'O', b'X', b'L'],
+        ShiftOp::Roxr => [b'R', b'O', b'X', b'R'],
     }
 }
 
-fn put_bit_name(out: &mut [u8], at: usize, op: BitOp) -> usize
-    ensures { λ r. ⌜ Wrote (now (out .entry)) at (bitName op) (now (out .exit)) r ⌝ }
+fn bit_name(op: BitOp) -> [u8; 4]
+    ensures { λ r. ⌜ before 32 r ≡ bitName op ⌝ }
 {
     match op {
-        BitOp::Btst => put_bytes(out, at, b"BTST"),
-        BitOp::Bset => put_bytes(out, at, b"BSET"),
-        BitOp::Bclr => put_bytes(out, at, b"BCLR"),
-        BitOp::Bchg => put_bytes(out, at, b"BCHG"),
+        BitOp::Btst => [b'B', b'T', b'S', b'T'],
+        BitOp::Bset => [b'B', b'S', b'E', b'T'],
+        BitOp::Bclr => [b'B', b'C', b'L', b'R'],
+        BitOp::Bchg => [b'B', b'C', b'H', b'G'],
     }
 }
 
-fn put_operation(out: &mut [u8], at: usize, form: Form) -> usize
-    ensures { λ r. ⌜ Wrote (now (out .entry)) at (operationText form) (now (out .exit)) r ⌝ }
+fn operation_name(form: Form) -> [u8; 4]
+    ensures { λ r. ⌜ before 32 r ≡ operationText form ⌝ }
 {
     match form {
-        Form::Two(op, _, _) => put_two_name(out, at, op),
-        Form::Address(op, _, _) => put_address_name(out, at, op),
-        Form::Quick(op, _, _) => put_quick_name(out, at, op),
-        Form::One(op, _) => put_one_name(out, at, op),
-        Form::Shift(op, _, _) => put_shift_name(out, at, op),
-        Form::Bit(op, _, _) => put_bit_name(out, at, op),
-        Form::Chk(_, _) => put_bytes(out, at, b"CHK"),
+        Form::Two(op, _, _) => two_name(op),
+        Form::Address(op, _, _) => address_name(op),
+        Form::Quick(op, _, _) => quick_name(op),
+        Form::One(op, _) => one_name(op),
+        Form::Shift(op, _, _) => shift_name(op),
+        Form::Bit(op, _, _) => bit_name(op),
+        Form::Chk(_, _) => [b'C', b'H', b'K', b' '],
     }
 }
 
-fn put_size(out: &mut [u8], at: usize, size: Size) -> usize
-    ensures { λ r. ⌜ Wrote (now (out .entry)) at (sizeText size) (now (out .exit)) r ⌝ }
+fn size_name(size: Size) -> [u8; 4]
+    ensures { λ r. ⌜ before 32 r ≡ sizeText size ⌝ }
 {
     match size {
-        Size::Byte => put_byte(out, at, b'B'),
-        Size::Word => put_byte(out, at, b'W'),
-        Size::Long => put_byte(out, at, b'L'),
+        Size::Byte => [b'B', b' ', b' ', b' '],
+        Size::Word => [b'W', b' ', b' ', b' '],
+        Size::Long => [b'L', b' ', b' ', b' '],
     }
 }
 
-fn put_register(out: &mut [u8], at: usize, register: Register) -> usize
-    ensures { λ r. ⌜ Wrote (now (out .entry)) at (registerText register) (now (out .exit)) r ⌝ }
+// What stands in an operand's field: a mark and a number, or none.
+enum Operand {
+    Numbered(u8, u8),
+    Absent,
+}
+
+fn of_register(register: Register) -> Operand
+    ensures { λ r. ⌜ operandText r ≡ registerText register ⌝ }
 {
     match register {
-        Register::Data(d) => put_number(out, at, b'D', d.0 as u64),
-        Register::Address(a) => put_number(out, at, b'A', a.0 as u64),
+        Register::Data(d) => Operand::Numbered(b'D', d.0),
+        Register::Address(a) => Operand::Numbered(b'A', a.0),
     }
 }
 
-fn put_count(out: &mut [u8], at: usize, count: Count) -> usize
-    ensures { λ r. ⌜ Wrote (now (out .entry)) at (countText count) (now (out .exit)) r ⌝ }
+fn of_count(count: Count) -> Operand
+    ensures { λ r. ⌜ operandText r ≡ countText count ⌝ }
 {
     match count {
-        Count::Small(k) => put_number(out, at, b'#', k as u64),
-        Count::Data(d) => put_number(out, at, b'D', d.0 as u64),
+        Count::Small(k) => Operand::Numbered(b'#', k),
+        Count::Data(d) => Operand::Numbered(b'D', d.0),
     }
 }
 
-fn put_source(out: &mut [u8], at: usize, form: Form) -> usize
-    ensures { λ r. ⌜ Wrote (now (out .entry)) at (sourceText form) (now (out .exit)) r ⌝ }
+fn source(form: Form) -> Operand
+    ensures { λ r. ⌜ operandText r ≡ sourceText form ⌝ }
 {
     match form {
-        Form::Two(_, p, _) => put_number(out, at, b'D', p.0 as u64),
-        Form::Address(_, p, _) => put_register(out, at, p),
-        Form::Quick(_, k, _) => put_number(out, at, b'#', k as u64),
-        Form::One(_, _) => put_byte(out, at, b'-'),
-        Form::Shift(_, k, _) => put_count(out, at, k),
-        Form::Bit(_, k, _) => put_count(out, at, k),
-        Form::Chk(p, _) => put_number(out, at, b'D', p.0 as u64),
+        Form::Two(_, p, _) => Operand::Numbered(b'D', p.0),
+        Form::Address(_, p, _) => of_register(p),
+        Form::Quick(_, k, _) => Operand::Numbered(b'#', k),
+        Form::One(_, _) => Operand::Absent,
+        Form::Shift(_, k, _) => of_count(k),
+        Form::Bit(_, k, _) => of_count(k),
+        Form::Chk(p, _) => Operand::Numbered(b'D', p.0),
     }
 }
 
-fn put_destination(out: &mut [u8], at: usize, form: Form) -> usize
-    ensures { λ r. ⌜ Wrote (now (out .entry)) at (destinationText form) (now (out .exit)) r ⌝ }
+fn destination(form: Form) -> Operand
+    ensures { λ r. ⌜ operandText r ≡ destinationText form ⌝ }
 {
     match form {
-        Form::Two(_, _, q) => put_number(out, at, b'D', q.0 as u64),
-        Form::Address(_, _, q) => put_number(out, at, b'A', q.0 as u64),
-        Form::Quick(_, _, q) => put_register(out, at, q),
-        Form::One(_, q) => put_number(out, at, b'D', q.0 as u64),
-        Form::Shift(_, _, q) => put_number(out, at, b'D', q.0 as u64),
-        Form::Bit(_, _, q) => put_number(out, at, b'D', q.0 as u64),
-        Form::Chk(_, q) => put_number(out, at, b'D', q.0 as u64),
+        Form::Two(_, _, q) => Operand::Numbered(b'D', q.0),
+        Form::Address(_, _, q) => Operand::Numbered(b'A', q.0),
+        Form::Quick(_, _, q) => of_register(q),
+        Form::One(_, q) => Operand::Numbered(b'D', q.0),
+        Form::Shift(_, _, q) => Operand::Numbered(b'D', q.0),
+        Form::Bit(_, _, q) => Operand::Numbered(b'D', q.0),
+        Form::Chk(_, q) => Operand::Numbered(b'D', q.0),
+    }
+}
+
+// A tab, and a name without its blanks.
+fn put_name(out: &mut [u8], at: usize, name: [u8; 4]) -> usize
+    ensures { λ r. ⌜ Wrote (now (out .entry)) at (9 ∷ before 32 name) (now (out .exit)) r ⌝ }
+{
+    let next = put_byte(out, at, TAB);
+    let n = first(&name, BLANK);
+    put_bytes(out, next, &name[..n])
+}
+
+// A tab, and an operand.
+fn put_operand(out: &mut [u8], at: usize, operand: Operand) -> usize
+    ensures { λ r. ⌜ Wrote (now (out .entry)) at (9 ∷ operandText operand) (now (out .exit)) r ⌝ }
+{
+    let next = put_byte(out, at, TAB);
+    match operand {
+        Operand::Numbered(mark, n) => put_number(out, next, mark, n as u64),
+        Operand::Absent => put_byte(out, next, b'-'),
     }
 }
 
@@ -183,14 +213,10 @@ fn put_step(out: &mut [u8], at: usize, place: u64, step: Step) -> usize
     let size = step.size;
     let form = step.form;
     let next = put_decimal(out, at, place);
-    let next = put_byte(out, next, TAB);
-    let next = put_operation(out, next, form);
-    let next = put_byte(out, next, TAB);
-    let next = put_size(out, next, size);
-    let next = put_byte(out, next, TAB);
-    let next = put_source(out, next, form);
-    let next = put_byte(out, next, TAB);
-    let next = put_destination(out, next, form);
+    let next = put_name(out, next, operation_name(form));
+    let next = put_name(out, next, size_name(size));
+    let next = put_operand(out, next, source(form));
+    let next = put_operand(out, next, destination(form));
     put_byte(out, next, NEWLINE)
 }
 
@@ -259,16 +285,23 @@ fn lesser(a: usize, b: usize) -> usize
     if a < b { a } else { b }
 }
 
+// The first line of what is printed: a word and two numbers.
+fn put_head(out: &mut [u8], word: &[u8], a: u64, b: u64) -> usize
+    ensures { λ r. ⌜ Wrote (now (out .entry)) 0 (now (word .entry) ++ (fieldOf a ++ (fieldOf b ++ newline))) (now (out .exit)) r ⌝ }
+{
+    let next = put_bytes(out, 0, word);
+    let next = put_number(out, next, TAB, a);
+    let next = put_number(out, next, TAB, b);
+    put_byte(out, next, NEWLINE)
+}
+
 // Prints the first `count` steps of a listing; a count above 256 means all 256.
 pub fn print(width: u8, steps: [Step; 256], count: usize, out: &mut [u8]) -> usize
     ensures { λ r. ⌜ written (now (out .exit)) r ≡ writing (now (out .entry)) (listingText width (take count steps)) ⌝ }
 {
     let many = lesser(count, 256);
     let sum = clocks(steps, count);
-    let next = put_bytes(out, 0, b"width");
-    let next = put_number(out, next, TAB, width as u64);
-    let next = put_number(out, next, TAB, many as u64);
-    let next = put_byte(out, next, NEWLINE);
+    let next = put_head(out, b"width", width as u64, many as u64);
     let next = put_steps(out, next, steps, count);
     let next = put_bytes(out, next, b"clocks");
     let next = put_number(out, next, TAB, sum);
@@ -280,10 +313,7 @@ pub fn print_refusal(refusal: Refusal, line: usize, out: &mut [u8]) -> usize
     ensures { λ r. ⌜ written (now (out .exit)) r ≡ writing (now (out .entry)) (refusalText refusal line) ⌝ }
 {
     let n = number(refusal);
-    let next = put_bytes(out, 0, b"refused");
-    let next = put_number(out, next, TAB, n as u64);
-    let next = put_number(out, next, TAB, line as u64);
-    put_byte(out, next, NEWLINE)
+    put_head(out, b"refused", n as u64, line as u64)
 }
 
 // Prints a recipe's listing, or why it has none.

@@ -10,6 +10,8 @@ pub(crate) const TAB: u8 = 9;
 
 pub(crate) const NEWLINE: u8 = 10;
 
+pub(crate) const BLANK: u8 = 32;
+
 // Where `b` stands first in `s`, or the length of `s` where it doesn't.
 pub(crate) fn first(s: &[u8], b: u8) -> usize
     ensures { λ r. ⌜ r ≡ length (before b (now (s .entry))) ⌝ }

@@ -1,20 +1,17 @@
--- `ending::put_settings` is safe and ends: the register's number stays within 8, and the slice keeps its length. Assumes nothing.
+-- `ending::put_settings` is safe and ends: the register's number stays within 8. Assumes nothing.
 use borrow.Author.Needs.{needs}
 use Prim.Native.Nat.{_≤_, _-_}
-use mathlib.Core.Path.{_≡_}
-use lib.ListN.{length}
 use Rattle.bench.proofs.ending.put_settings.Statement.{statement}
 use Rattle.bench.proofs.ending.put_settings.Tie as tie
 
 abbrev Inv-loop : tie.InvT-loop
-Inv-loop out₀ letter registers next₀ r₀ out next r = (r ≤ 8) × (length out ≡ length out₀)
+Inv-loop letter registers next₀ r₀ next r = r ≤ 8
 
 abbrev μ-loop : tie.MeasureT-loop
-μ-loop out₀ letter registers next₀ r₀ out next r = 8 - r
+μ-loop letter registers next₀ r₀ next r = 8 - r
 
 pub put-settings-spec : {M : Type 1} → statement M
 put-settings-spec =
     tie.close
     (tie.spec
-    Inv-loop μ-loop (search needs) (search needs) (search needs) (search needs) (search needs) (search needs) (search needs) (search needs)
-    (λ c. search needs))
+    Inv-loop μ-loop (search needs) (search needs) (search needs) (search needs) (search needs) (search needs) (search needs) (search needs))

@@ -1,19 +1,17 @@
--- `numbers::put_names` is safe and ends: it counts the words down, and the slice keeps its length. Assumes nothing.
+-- `numbers::put_names` is safe and ends: it counts the words down. Assumes nothing.
 use borrow.Author.Needs.{needs}
-use mathlib.Core.Path.{_≡_}
-use lib.ListN.{length}
 use Rattle.bench.proofs.numbers.put_names.Statement.{statement}
 use Rattle.bench.proofs.numbers.put_names.Tie as tie
 
 abbrev Inv-loop : tie.InvT-loop
-Inv-loop out₀ width k low next₀ i₀ t8 out next i = length out ≡ length out₀
+Inv-loop width k low next₀ i₀ t8 next i = Unit {0}
 
 abbrev μ-loop : tie.MeasureT-loop
-μ-loop out₀ width k low next₀ i₀ t8 out next i = i
+μ-loop width k low next₀ i₀ t8 next i = i
 
 pub put-names-spec : {M : Type 1} → statement M
 put-names-spec =
     tie.close
     (tie.spec
     Inv-loop μ-loop (search needs) (search needs) (search needs) (search needs) (search needs) (search needs) (search needs) (search needs)
-    (search needs) (search needs) (search needs) (λ c. search needs))
+    (search needs) (search needs) (search needs))

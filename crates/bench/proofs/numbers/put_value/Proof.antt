@@ -9,20 +9,20 @@ use Rattle.bench.proofs.numbers.put_value.Statement.{statement}
 use Rattle.bench.proofs.numbers.put_value.Tie as tie
 
 abbrev Inv-loop : tie.InvT-loop
-Inv-loop out pen width k digits₀ words₀ i₀ digits words i = (i ≤ 39) × (length digits ≡ 39)
+Inv-loop pen width k digits₀ words₀ i₀ digits words i = (i ≤ 39) × (length digits ≡ 39)
 
 abbrev μ-loop : tie.MeasureT-loop
-μ-loop out pen width k digits₀ words₀ i₀ digits words i = i
+μ-loop pen width k digits₀ words₀ i₀ digits words i = i
 
 sub-put : tie.Need-sub-put Inv-loop μ-loop
-sub-put c = ⊎-elim (λ w. omega arith) (λ w. omega arith) (c .before .before .loop-test .came)
+sub-put c = ⊎-elim (λ w. omega arith) (λ w. omega arith) (c .before .loop-test .came)
 
 part-put-start : tie.Need-part-put-start Inv-loop μ-loop
-part-put-start c = ⊎-elim (λ w. omega arith) (λ w. omega arith) (c .before .before .before .loop-test .came)
+part-put-start c = ⊎-elim (λ w. omega arith) (λ w. omega arith) (c .before .before .loop-test .came)
 
 part-put-end : tie.Need-part-put-end Inv-loop μ-loop
 part-put-end c =
-    let left = c .before .before .before in
+    let left = c .before .before in
     let whole : length (left .loop-test .digits) ≡ 39 =
     ⊎-elim (λ w. rw (w .1) (search needs)) (λ w. rw (w .6) (search needs)) (left .loop-test .came) in
     omega arith
@@ -32,4 +32,4 @@ put-value-spec =
     tie.close
     (tie.spec
     Inv-loop μ-loop (search needs) (search needs) (search needs) (search needs) (search needs) (search needs) (search needs) (search needs)
-    (search needs) sub-put part-put-start part-put-end (search needs) (search needs) (λ c. search needs))
+    (λ c. search needs) sub-put part-put-start part-put-end (search needs) (search needs))

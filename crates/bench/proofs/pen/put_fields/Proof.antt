@@ -1,20 +1,18 @@
--- `pen::put_fields` is safe and ends: the place rises to the text's end, and the slice keeps its length. Assumes nothing.
+-- `pen::put_fields` is safe and ends: the place rises to the text's end. Assumes nothing.
 use borrow.Author.Needs.{needs}
 use Prim.Native.Nat.{_-_}
-use mathlib.Core.Path.{_≡_}
 use lib.ListN.{length}
 use Rattle.bench.proofs.pen.put_fields.Statement.{statement}
 use Rattle.bench.proofs.pen.put_fields.Tie as tie
 
 abbrev Inv-loop : tie.InvT-loop
-Inv-loop out₀ text from next₀ at₀ out next at = length out ≡ length out₀
+Inv-loop text from next₀ at₀ next at = Unit {0}
 
 abbrev μ-loop : tie.MeasureT-loop
-μ-loop out₀ text from next₀ at₀ out next at = length text - at
+μ-loop text from next₀ at₀ next at = length text - at
 
 pub put-fields-spec : {M : Type 1} → statement M
 put-fields-spec =
     tie.close
     (tie.spec
-    Inv-loop μ-loop (search needs) (search needs) (search needs) (λ c. search needs) (search needs) (search needs) (search needs) (search needs)
-    (search needs) (λ c. search needs))
+    Inv-loop μ-loop (search needs) (search needs) (search needs) (search needs) (search needs) (search needs) (search needs) (search needs))

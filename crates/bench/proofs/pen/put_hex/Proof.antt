@@ -7,14 +7,14 @@ use Rattle.bench.proofs.pen.put_hex.Statement.{statement}
 use Rattle.bench.proofs.pen.put_hex.Tie as tie
 
 abbrev Inv-loop : tie.InvT-loop
-Inv-loop out pen value digits₀ rest₀ i₀ digits rest i = (i ≤ 8) × ((rest < 4294967296) × (length digits ≡ 8))
+Inv-loop pen value digits₀ rest₀ i₀ digits rest i = (i ≤ 8) × ((rest < 4294967296) × (length digits ≡ 8))
 
 abbrev μ-loop : tie.MeasureT-loop
-μ-loop out pen value digits₀ rest₀ i₀ digits rest i = i
+μ-loop pen value digits₀ rest₀ i₀ digits rest i = i
 
 pub put-hex-spec : {M : Type 1} → statement M
 put-hex-spec =
     tie.close
     (tie.spec
-    Inv-loop μ-loop (search needs) (search needs) (search needs) (search needs) (search needs) (search needs) (search needs) (search needs)
-    (search needs) (search needs) (λ c. search needs))
+    Inv-loop μ-loop (search needs) (search needs) (search needs) (search needs) (search needs) (search needs) (λ c. search needs) (search needs)
+    (search needs) (search needs))

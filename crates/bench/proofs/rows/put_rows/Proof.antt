@@ -16,4 +16,4 @@ put-rows-spec =
     tie.close
     (tie.spec
     Inv-loop μ-loop (search needs) (search needs) (search needs) (search needs) (search needs) (search needs) (search needs) (search needs)
-    (search needs) (λ c. search needs))
+    (search needs) (search needs) (search needs) (search needs))

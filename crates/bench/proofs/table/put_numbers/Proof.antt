@@ -7,13 +7,14 @@ use Rattle.bench.proofs.table.put_numbers.Statement.{statement}
 use Rattle.bench.proofs.table.put_numbers.Tie as tie
 
 abbrev Inv-loop : tie.InvT-loop
-Inv-loop out₀ width d next₀ k₀ out next k = (k ≤ 8) × (length out ≡ length out₀)
+Inv-loop out₀ at width d next₀ pen₀ k₀ out next pen k = (k ≤ 8) × (length out ≡ length out₀)
 
 abbrev μ-loop : tie.MeasureT-loop
-μ-loop out₀ width d next₀ k₀ out next k = 8 - k
+μ-loop out₀ at width d next₀ pen₀ k₀ out next pen k = 8 - k
 
 pub put-numbers-spec : {M : Type 1} → statement M
 put-numbers-spec =
     tie.close
     (tie.spec
-    Inv-loop μ-loop (search needs) (search needs) (search needs) (search needs) (search needs) (search needs) (search needs) (λ c. search needs))
+    Inv-loop μ-loop (search needs) (search needs) (search needs) (search needs) (search needs) (search needs) (search needs) (search needs)
+    (search needs) (search needs))

@@ -6,13 +6,14 @@ use Rattle.bench.proofs.table.put_rows.Statement.{statement}
 use Rattle.bench.proofs.table.put_rows.Tie as tie
 
 abbrev Inv-loop : tie.InvT-loop
-Inv-loop out₀ text printed recipe made steps next₀ ran₀ left₀ out next ran left = length out ≡ length out₀
+Inv-loop out₀ at text printed recipe made steps next₀ ran₀ left₀ out next ran left = length out ≡ length out₀
 
 abbrev μ-loop : tie.MeasureT-loop
-μ-loop out₀ text printed recipe made steps next₀ ran₀ left₀ out next ran left = left
+μ-loop out₀ at text printed recipe made steps next₀ ran₀ left₀ out next ran left = left
 
 pub put-rows-spec : {M : Type 1} → statement M
 put-rows-spec =
     tie.close
     (tie.spec
-    Inv-loop μ-loop (search needs) (search needs) (search needs) (search needs) (search needs) (search needs) (search needs) (λ c. search needs))
+    Inv-loop μ-loop (search needs) (search needs) (search needs) (search needs) (search needs) (search needs) (search needs) (search needs)
+    (search needs))

@@ -1,5 +1,6 @@
 -- `recipes::printer::print` meets its contract: its writers, one behind the other. Assumes nothing.
 use borrow.Author.Needs.{needs}
+use mathlib.Core.List.{append-assoc}
 use mathlib.Core.Path.{_≡_, sym, _∙_}
 use lib.ListN.{length}
 use Rattle.recipes.specs.Printer.{listingText}
@@ -11,15 +12,21 @@ use Rattle.recipes.proofs.printer.print.Tie as tie
 returns : tie.Need-returns
 unfolding listingText
 returns c =
-    let k = c .before .before .before .before .before .before .before .before .before .before .before .before .before .before .before .before .before .before .before .before .before .before .before .before .before .before .before .before .before .before .before .before .before .before in
+    let k = c .before .before .before .before .before .before .before .before .before .before .before .before .before .before .before .before .before .before .before .before .before .before in
     let a = k .before .before .before .args in
     let long : length (a .steps) ≡ 256 = search mapped in
+    let e = c .before .before in
+    let n = e .before .before .before .before in
+    let w = n .before .before .before .before in
+    let s = w .before .before .before .before .before in
+    let h = s .before .before .before .before in
+    let end = then (s .put-steps .ensures) (then (w .put-bytes .ensures) (then (n .put-number .ensures) (e .put-byte .ensures))) in
     rw (← k .clocks .ensures, sym (k .before .lesser .ensures ∙ take-many (a .steps) (a .count) 256 long))
-    (as-one (then (c .before .before .before .before .before .before .before .before .before .before .before .before .before .before .before .before .before .before .before .before .before .before .before .before .before .before .before .before .before .before .before .put-bytes .ensures) (then (c .before .before .before .before .before .before .before .before .before .before .before .before .before .before .before .before .before .before .before .before .before .before .before .before .before .before .before .put-number .ensures) (then (c .before .before .before .before .before .before .before .before .before .before .before .before .before .before .before .before .before .before .before .before .before .before .before .put-number2 .ensures) (then (c .before .before .before .before .before .before .before .before .before .before .before .before .before .before .before .before .before .before .before .put-byte .ensures) (then (c .before .before .before .before .before .before .before .before .before .before .before .before .before .before .before .put-steps .ensures) (then (c .before .before .before .before .before .before .before .before .before .before .put-bytes2 .ensures) (then (c .before .before .before .before .before .before .put-number3 .ensures) (c .before .before .put-byte2 .ensures)))))))))
+    (as-one (simp append-assoc at (then (h .put-head .ensures) end)))
 
 pub print-spec : {M : Type 1} → statement M
 print-spec =
     tie.close
     (tie.spec
     (search needs) (search needs) (search needs) (search needs) (search needs) (search needs) (search needs) (search needs) (search needs)
-    (search needs) (search needs) (search needs) (search needs) returns)
+    (search needs) returns)

@@ -1,0 +1,16 @@
+-- `recipes::printer::put_head` meets its contract: its writers, one behind the other. Assumes nothing.
+use borrow.Author.Needs.{needs}
+use Rattle.recipes.proofs.Writing.{then}
+use Rattle.recipes.proofs.printer.put_head.Statement.{statement}
+use Rattle.recipes.proofs.printer.put_head.Tie as tie
+
+returns : tie.Need-returns
+returns c =
+    let p = c .before .before in
+    let n = p .before .before .before .before in
+    let m = n .before .before .before .before in
+    let w = m .before .before .before .before in
+    then (w .put-bytes .ensures) (then (m .put-number .ensures) (then (n .put-number2 .ensures) (p .put-byte .ensures)))
+
+pub put-head-spec : {M : Type 1} → statement M
+put-head-spec = tie.close (tie.spec (search needs) (search needs) (search needs) (search needs) (search needs) returns)

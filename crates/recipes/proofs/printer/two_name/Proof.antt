@@ -1,0 +1,13 @@
+-- `recipes::printer::two_name` meets its contract, arm by arm: the letters before the first blank are the name. Assumes nothing.
+use borrow.Author.Needs.{needs}
+use Rattle.recipes.specs.Text.{before}
+use Rattle.recipes.proofs.printer.two_name.Statement.{statement}
+use Rattle.recipes.proofs.printer.two_name.Tie as tie
+
+pub two-name-spec : {M : Type 1} → statement M
+unfolding before
+two-name-spec =
+    tie.close
+    (tie.spec
+    (search needs) (search needs) (search needs) (search needs) (search needs) (λ c. rw (c .enum-told .given .1)) (λ c. rw (c .enum-told2 .given .1))
+    (λ c. rw (c .enum-told3 .given .1)) (λ c. rw (c .enum-told4 .given .1)) (λ c. rw (c .enum-told5 .given .1)))
