@@ -1,6 +1,9 @@
 -- `recipes::reader::check_line` meets its contract: its tests are the definition's. Assumes nothing.
+use mathlib.Core.Path.{_≡_}
+use mathlib.Core.Bool.{true, false, _&&_}
+use lib.Dec.{eqb}
 use borrow.Author.Needs.{needs}
-use Rattle.recipes.specs.Recipe.{lineChecked}
+use Rattle.recipes.specs.Recipe.{isCopy, target, lineChecked}
 use Rattle.recipes.proofs.reader.check_line.Statement.{statement}
 use Rattle.recipes.proofs.reader.check_line.Tie as tie
 
@@ -13,14 +16,18 @@ unfolding lineChecked
 returns-2 c =
     let i = c .before .before in
     let t = i .before .before in
-    rw (rw (t .target .ensures) at (i .if1 .left), rw (t .before .is-copy .ensures, t .target .ensures) at (c .if2 .taken))
+    let l = t .before .before .args .line in
+    let onto : (isCopy (l .verb) && eqb (l .a) (target l)) ≡ true = rw (t .before .is-copy .ensures, t .target .ensures) at (c .if2 .taken) in
+    rw (rw (t .target .ensures) at (i .if1 .left), onto)
 
 returns-3 : tie.Need-returns-3
 unfolding lineChecked
 returns-3 c =
     let i = c .before .before in
     let t = i .before .before in
-    rw (rw (t .target .ensures) at (i .if1 .left), rw (t .before .is-copy .ensures, t .target .ensures) at (c .if2 .left))
+    let l = t .before .before .args .line in
+    let onto : (isCopy (l .verb) && eqb (l .a) (target l)) ≡ false = rw (t .before .is-copy .ensures, t .target .ensures) at (c .if2 .left) in
+    rw (rw (t .target .ensures) at (i .if1 .left), onto)
 
 pub check-line-spec : {M : Type 1} → statement M
 check-line-spec = tie.close (tie.spec (search needs) (search needs) returns returns-2 returns-3)
