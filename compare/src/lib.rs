@@ -26,6 +26,7 @@ pub mod ported;
 #[cfg(feature = "recipes")]
 pub mod ported_recipes;
 pub mod recipes;
+pub mod refusals;
 pub mod shim;
 pub mod steps;
 pub mod texts;

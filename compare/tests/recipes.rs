@@ -3,37 +3,16 @@
 
 use compare::cases::Random;
 use compare::recipes::{Line, Recipe, Verb, answer, clocks, read, translate};
+use compare::refusals;
 use compare::steps::{End, FIRST, Ran, State};
 use compare::texts::recipe;
 use compare::tuned;
 
-fn says(text: &str, printed: &str) {
-    assert_eq!(answer(text.replace(' ', "\t").as_bytes()), printed.replace(' ', "\t"), "{text:?}");
-}
-
 #[test]
-fn recipes_are_printed() {
-    says(
-        "width 2\nadd 0 1\nneg 1\n",
-        "width 2 4\n0 ADD L D0 D2\n1 ADDX L D1 D3\n2 NEG L - D2\n3 NEGX L - D3\nclocks 20\n",
-    );
-    says("width 2\nhalve 1\n", "width 2 2\n0 ASR L #1 D3\n1 ROXR L #1 D2\nclocks 20\n");
-    says("width 1\ncopy 7 0\n", "width 1 2\n0 CLR L - D0\n1 ADD L D7 D0\nclocks 10\n");
-    says("width 1\n", "width 1 0\nclocks 0\n");
-}
-
-#[test]
-fn texts_are_refused() {
-    says("", "refused 4 1\n");
-    says("width 1", "refused 4 1\n");
-    says("width 4\nadd 0 2\n", "refused 6 2\n");
-    says("width 4\ncopy 2 2\n", "refused 6 2\n");
-    says("width 4\ncopy 1 1\n", "refused 7 2\n");
-    says("width 4\nup 0\nclear 9 9\n", "refused 5 3\n");
-    says("width 4\nup 0", "refused 5 2\n");
-    let full = "width 1\n".to_string() + &"up 0\n".repeat(32);
-    assert!(read(full.replace(' ', "\t").as_bytes()).is_ok());
-    says(&(full + "x"), "refused 8 34\n");
+fn texts_are_printed_or_refused() {
+    for row in refusals::rows(concat!(env!("CARGO_MANIFEST_DIR"), "/../examples/refusals.tsv")) {
+        assert_eq!(answer(&row.text).as_bytes(), row.printed, "{}", row.name);
+    }
 }
 
 #[test]

@@ -1,14 +1,15 @@
 //! The port's recipes against the reading of document 01 in src/recipes.rs.
 //!
-//!   recipes agree [TEXTS]   random texts, and a tenth as many recipes made by hand
+//!   recipes agree [TEXTS]   the rows of examples/refusals.tsv and of `BY_HAND`; random texts, and a tenth as many recipes made by hand
 //!
 //! SEED is the random numbers' seed. How often each refusal was met is printed; if one never was, the status is 2.
 
 use compare::cases::Random;
 use compare::check::Tally;
 use compare::ported_recipes as ported;
-use compare::recipes::{Recipe, Refused, answer, read, taken, translate};
-use compare::steps::Step;
+use compare::recipes::{Line, Recipe, Refused, Verb, answer, read, taken, translate};
+use compare::refusals;
+use compare::steps::{Form, Size, Step};
 use compare::texts::{self, KINDS};
 use std::process::ExitCode;
 
@@ -72,6 +73,25 @@ fn compare_text(text: &[u8], out: &mut [u8; OUT], tally: &mut Tally) -> Refused 
     });
     *out = UNTOUCHED;
     should
+}
+
+/// The rows of texts and what is printed for them: the port and the reading print it.
+fn compare_rows(tally: &mut Tally) -> usize {
+    let rows = refusals::rows(concat!(env!("CARGO_MANIFEST_DIR"), "/../examples/refusals.tsv"));
+    let mut out = UNTOUCHED;
+    for row in &rows {
+        compare_text(&row.text, &mut out, tally);
+        let got = answer(&row.text);
+        tally.count(got.as_bytes() == row.printed, || {
+            format!(
+                "row \"{}\"\n  reading  {:?}\n  row      \"{}\"",
+                row.name,
+                got,
+                row.printed.escape_ascii()
+            )
+        });
+    }
+    rows.len()
 }
 
 /// Random texts, as many of each kind. A text longer than the program reads is compared cut and whole: both meet one refusal.
@@ -173,7 +193,81 @@ fn compare_recipe(recipe: &Recipe, before: &[Step], blank: Step, tally: &mut Tal
     want_lent.refused
 }
 
-/// Recipes made by hand.
+/// A recipe made by hand: `count` lines, all of them `line` but the 18th and the 32nd; the slots that it is translated into; and
+/// what comes of it: refusal, its line, steps.
+struct ByHand {
+    width: u8,
+    count: usize,
+    line: Line,
+    one: Line,
+    last: Line,
+    slots: usize,
+    told: (u8, usize, usize),
+}
+
+const fn line(verb: Verb, a: u8, b: u8) -> Line {
+    Line { verb, a, b }
+}
+
+const NOT: Line = line(Verb::Not, 0, 0);
+const COPY: Line = line(Verb::Copy, 0, 1);
+const PAST: Line = line(Verb::Neg, 9, 0);
+
+const fn by_hand(width: u8, count: usize, one: Line, last: Line, told: (u8, usize, usize)) -> ByHand {
+    ByHand { width, count, line: NOT, one, last, slots: 255, told }
+}
+
+/// So many copies of four long words, each eight steps.
+const fn copies(count: usize, slots: usize, told: (u8, usize, usize)) -> ByHand {
+    ByHand { width: 4, count, line: COPY, one: COPY, last: COPY, slots, told }
+}
+
+#[rustfmt::skip]
+const BY_HAND: [ByHand; 21] = [
+    by_hand(0, 32, NOT, NOT, (4, 1, 0)),
+    by_hand(3, 0, NOT, NOT, (4, 1, 0)),
+    by_hand(255, 99, NOT, NOT, (4, 1, 0)),
+    // past the 32nd line; a line past the count doesn't count
+    by_hand(1, 33, NOT, PAST, (8, 0, 0)),
+    by_hand(1, usize::MAX, NOT, NOT, (8, 0, 0)),
+    by_hand(4, 32, NOT, NOT, (0, 0, 128)),
+    by_hand(4, 31, NOT, PAST, (0, 0, 124)),
+    // the source, the target, the last line; b of a verb with one number
+    by_hand(2, 32, line(Verb::Add, 4, 0), PAST, (6, 19, 0)),
+    by_hand(2, 32, NOT, line(Verb::Sub, 0, 255), (6, 33, 0)),
+    by_hand(2, 32, line(Verb::Neg, 3, 255), NOT, (0, 0, 64)),
+    // copies onto itself, and 6 before 7
+    by_hand(2, 32, line(Verb::Copy, 3, 3), PAST, (7, 19, 0)),
+    by_hand(2, 32, NOT, line(Verb::Copy, 0, 0), (7, 33, 0)),
+    by_hand(2, 32, line(Verb::Copy, 4, 4), NOT, (6, 19, 0)),
+    // too few slots, just enough, more
+    copies(32, 255, (9, 0, 0)),
+    copies(32, 256, (0, 0, 256)),
+    copies(32, 257, (0, 0, 256)),
+    copies(31, 247, (9, 0, 0)),
+    copies(31, 248, (0, 0, 248)),
+    copies(1, 7, (9, 0, 0)),
+    copies(1, 0, (9, 0, 0)),
+    copies(0, 0, (0, 0, 0)),
+];
+
+/// The recipes of `BY_HAND`, into rows of a step that no recipe has.
+fn compare_by_hand(tally: &mut Tally) {
+    let (_, _, blank) = ported::translate_array(Recipe::empty(1));
+    for row in BY_HAND {
+        let mut recipe = Recipe { width: row.width, count: row.count, lines: [row.line; 32] };
+        (recipe.lines[17], recipe.lines[31]) = (row.one, row.last);
+        let slots = vec![Step { size: Size::Word, form: Form::Chk(1, 2) }; row.slots];
+        compare_recipe(&recipe, &slots, blank[0], tally);
+        let made = translate(&recipe, row.slots);
+        let told = made.map_or_else(|refused| (refused.number, refused.line, 0), |steps| (0, 0, steps.len()));
+        tally.count(told == row.told, || {
+            format!("{}: the reading {told:?}, the row {:?}", shown(&recipe), row.told)
+        });
+    }
+}
+
+/// Recipes made by hand, at random.
 fn compare_recipes(count: u64, random: &mut Random, tally: &mut Tally) -> bool {
     const NUMBERS: [usize; 6] = [0, 4, 6, 7, 8, 9];
     let (_, _, steps) = ported::translate_array(Recipe::empty(1));
@@ -192,10 +286,13 @@ fn compare_recipes(count: u64, random: &mut Random, tally: &mut Tally) -> bool {
 fn agree(texts: u64, mut random: Random) -> ExitCode {
     let recipes = texts / 10;
     let (mut of_texts, mut of_recipes) = (Tally::default(), Tally::default());
+    let rows = compare_rows(&mut of_texts);
+    compare_by_hand(&mut of_recipes);
     let texts_met = compare_texts(texts, &mut random, &mut of_texts);
     let recipes_met = compare_recipes(recipes, &mut random, &mut of_recipes);
     let differing = of_texts.differing + of_recipes.differing;
-    println!("total: {texts} texts, {recipes} recipes by hand, {differing} differ");
+    let fixed = BY_HAND.len();
+    println!("total: {rows} rows, {texts} texts, {fixed} and {recipes} recipes by hand, {differing} differ");
     match (differing, texts_met && recipes_met) {
         (0, true) => ExitCode::SUCCESS,
         (0, false) => ExitCode::from(2),

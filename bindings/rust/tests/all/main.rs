@@ -3,6 +3,8 @@
 mod common;
 mod recipes;
 mod refusals;
+#[path = "../../../../compare/src/refusals.rs"]
+mod rows;
 mod runs;
 mod sums;
 mod words;

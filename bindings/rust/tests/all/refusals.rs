@@ -3,6 +3,7 @@
 use gromavelush::*;
 
 use crate::common::{EXAMPLE, Random, copies};
+use crate::rows::rows;
 
 const STATE: State = State {
     d: [1, 2, 3, 4, 5, 6, 7, 8],
@@ -100,50 +101,25 @@ fn number_3_registers() {
     }
 }
 
+/// Document 01's texts, those that are refused and those that are not, as examples/refusals.tsv has them.
 #[test]
-fn number_4_width_lines() {
-    let texts: [&[u8]; 9] = [
-        b"",
-        b"\n",
-        b"width\t1",
-        b"width\t3\n",
-        b"width\t8\n",
-        b"width 1\n",
-        b"Width\t1\n",
-        b"width\t1\t\n",
-        b"add\t0\t1\n",
-    ];
-    for text in texts {
-        refused(text, 4, 1);
-    }
-    for width in [0, 3, 5, 8, 255] {
-        let recipe = Recipe { width, lines: vec![] };
-        assert_eq!(translate(&recipe), Err(Refused { refusal: Refusal::WidthLine, line: 1 }));
+fn texts_are_printed_or_refused() {
+    for row in rows(concat!(env!("CARGO_MANIFEST_DIR"), "/../../examples/refusals.tsv")) {
+        let printed = String::from_utf8(row.printed).expect("printed text");
+        assert_eq!(answer(&row.text), printed, "{}", row.name);
+        match printed.trim_end().split('\t').collect::<Vec<_>>()[..] {
+            ["refused", number, line] => refused(&row.text, number.parse().unwrap(), line.parse().unwrap()),
+            _ => assert!(read(&row.text).is_ok(), "{}", row.name),
+        }
     }
 }
 
 #[test]
-fn numbers_5_to_7_lines() {
-    let lines: [(&str, u8); 13] = [
-        ("swap\t0\t1\n", 5),
-        ("add\t0\n", 5),
-        ("neg\t0\t1\n", 5),
-        ("neg\t00\n", 5),
-        ("neg\tD\n", 5),
-        ("neg\t0", 5),
-        ("neg\t0\r\n", 5),
-        ("\n", 5),
-        ("add\t0\t4\n", 6),
-        ("neg\t9\n", 6),
-        ("copy\t4\t4\n", 6),
-        ("copy\t3\t3\n", 7),
-        ("copy\t0\t0\n", 7),
-    ];
-    for (line, number) in lines {
-        refused(format!("width\t2\n{line}").as_bytes(), number, 2);
-        refused(format!("width\t2\nup\t0\nadd\t1\t1\n{line}").as_bytes(), number, 4);
+fn number_4_widths_by_hand() {
+    for width in [0, 3, 5, 8, 255] {
+        let recipe = Recipe { width, lines: vec![] };
+        assert_eq!(translate(&recipe), Err(Refused { refusal: Refusal::WidthLine, line: 1 }));
     }
-    refused(b"width\t4\nadd\t0\t2\n", 6, 2);
 }
 
 #[test]
@@ -162,8 +138,6 @@ fn numbers_6_and_7_by_hand() {
 #[test]
 fn number_8_lines_after_the_32nd() {
     assert_eq!(read(&copies(1, 32)).map(|recipe| recipe.lines.len()), Ok(32));
-    refused(&copies(1, 33), 8, 34);
-    refused(&[copies(1, 32), b"x".to_vec()].concat(), 8, 34);
     for count in [33, 34, 256, 5000] {
         let lines = vec![Line { verb: Verb::Copy, a: 9, b: 9 }; count];
         let refused = translate(&Recipe { width: 1, lines });

@@ -69,19 +69,6 @@ fn document_01_s_example_is_printed_exactly() {
     assert_eq!(recipe.to_string().as_bytes(), EXAMPLE);
 }
 
-#[test]
-fn run_and_compared_only() {
-    assert_eq!(answer(b"width\t4\nadd\t0\t2\n"), "refused\t6\t2\n");
-    assert!(answer(&crate::common::copies(4, 32)).starts_with("width\t4\t256\n"));
-    assert_eq!(answer(&crate::common::copies(4, 33)), "refused\t8\t34\n");
-    assert_eq!(answer(b""), "refused\t4\t1\n");
-    assert_eq!(answer(b"width\t1\n"), "width\t1\t0\nclocks\t0\n");
-    let recipe = read(&crate::common::copies(4, 32)).expect("32 lines");
-    let blank = Step { size: Size::Long, form: Form::One(OneOp::Clr, D(0)) };
-    let refused = translate_into(&recipe, &mut [blank; 255]);
-    assert_eq!(refused, Err(Refused { refusal: Refusal::NoSpace, line: 0 }));
-}
-
 /// The longest line that can be printed, 256 times: nothing is left off.
 #[test]
 fn the_longest_listing_is_printed_whole() {
