@@ -1,0 +1,19 @@
+use borrow.Author.Needs.{needs}
+use Prim.Native.Nat.{_≤_, _-_}
+use Rattle.cases.proofs.fields.same_registers.Statement.{statement}
+use Rattle.cases.proofs.fields.same_registers.Tie as tie
+use Rattle.cases.proofs.fields.same_registers.Reads as reads
+use Rattle.cases.proofs.fields.same_registers.Lts as lts
+
+abbrev Inv-loop : tie.InvT-loop
+Inv-loop x y good₀ i₀ good i = i ≤ 8
+
+abbrev μ-loop : tie.MeasureT-loop
+μ-loop x y good₀ i₀ good i = 8 - i
+
+pub same-registers-spec : {M : Type 1} → statement M
+same-registers-spec =
+    tie.close
+    (tie.spec
+    Inv-loop μ-loop (λ c. search needs) (search needs) (search needs) (search needs) (search needs) (search needs) (search needs) (λ c. search needs)
+    (λ c. search needs))
