@@ -3,10 +3,6 @@ use Prim.Native.Nat.{_≤_, _-_}
 use lib.ListN.{length}
 use Rattle.cases.proofs.all_lines.Statement.{statement}
 use Rattle.cases.proofs.all_lines.Tie as tie
-use Rattle.cases.proofs.all_lines.Reads as reads
-use Rattle.cases.proofs.all_lines.Lts as lts
-use Rattle.bytes.proofs.scan.find.Reads as find-reads
-use Rattle.cases.proofs.with_line.Reads as with-line-reads
 
 abbrev Inv-loop : tie.InvT-loop
 Inv-loop path kind file t₀ at₀ t at = Unit {0}

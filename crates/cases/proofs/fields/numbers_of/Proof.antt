@@ -4,9 +4,6 @@ use mathlib.Core.Path.{_≡_}
 use lib.ListN.{length}
 use Rattle.cases.proofs.fields.numbers_of.Statement.{statement}
 use Rattle.cases.proofs.fields.numbers_of.Tie as tie
-use Rattle.cases.proofs.fields.numbers_of.Reads as reads
-use Rattle.cases.proofs.fields.numbers_of.Lts as lts
-use Rattle.cases.proofs.fields.longer.Reads as longer-reads
 
 abbrev Inv-loop : tie.InvT-loop
 Inv-loop row tab before out₀ n₀ at₀ out n at = (n .column ≤ 319) × (length out ≡ length out₀)

@@ -2,8 +2,6 @@ use borrow.Author.Needs.{needs}
 use Prim.Native.Nat.{_≤_, _-_}
 use Rattle.cases.proofs.fields.same_numbers.Statement.{statement}
 use Rattle.cases.proofs.fields.same_numbers.Tie as tie
-use Rattle.cases.proofs.fields.same_numbers.Reads as reads
-use Rattle.cases.proofs.fields.same_numbers.Lts as lts
 
 abbrev Inv-loop : tie.InvT-loop
 Inv-loop column v told good₀ i₀ good i = i ≤ 6

@@ -2,8 +2,6 @@ use borrow.Author.Needs.{needs}
 use Prim.Native.Nat.{_≤_, _-_}
 use Rattle.cases.proofs.fields.same_registers.Statement.{statement}
 use Rattle.cases.proofs.fields.same_registers.Tie as tie
-use Rattle.cases.proofs.fields.same_registers.Reads as reads
-use Rattle.cases.proofs.fields.same_registers.Lts as lts
 
 abbrev Inv-loop : tie.InvT-loop
 Inv-loop x y good₀ i₀ good i = i ≤ 8

@@ -4,12 +4,6 @@ use mathlib.Core.Path.{_≡_}
 use lib.ListN as list
 use Rattle.cases.proofs.fields.text_of.Statement.{statement}
 use Rattle.cases.proofs.fields.text_of.Tie as tie
-use Rattle.cases.proofs.fields.text_of.Reads as reads
-use Rattle.cases.proofs.fields.text_of.Lts as lts
-use Rattle.cases.proofs.fields.byte.Reads as byte-reads
-use Rattle.cases.proofs.fields.next.Reads as next-reads
-use Rattle.cases.proofs.fields.one_if.Reads as one-if-reads
-use Rattle.std.proofs.num.wrapping_add_usize.Reads as wrapping-add-usize-reads
 
 abbrev Inv-loop : tie.InvT-loop
 Inv-loop row tab out₀ length₀ state₀ at₀ out length state at = (length ≤ 20480) × (list.length out ≡ list.length out₀)

@@ -2,13 +2,6 @@ use borrow.Author.Needs.{needs}
 use Prim.Native.Nat.{_≤_, _-_}
 use Rattle.cases.proofs.runs.runs.Statement.{statement}
 use Rattle.cases.proofs.runs.runs.Tie as tie
-use Rattle.cases.proofs.runs.runs.Reads as reads
-use Rattle.cases.proofs.runs.runs.Lts as lts
-use Rattle.cases.proofs.fields.long.Reads as long-reads
-use Rattle.cases.proofs.runs.as_told.Reads as as-told-reads
-use Rattle.cases.proofs.runs.halted.Reads as halted-reads
-use Rattle.cases.proofs.runs.ran.Reads as ran-reads
-use Rattle.cases.proofs.runs.state.Reads as state-reads
 
 abbrev Inv-loop : tie.InvT-loop
 Inv-loop listing v steps good₀ halt₀ good halt = halt ≤ steps

@@ -2,9 +2,6 @@ use borrow.Author.Needs.{needs}
 use Prim.Native.Nat.{_≤_, _-_}
 use Rattle.cases.proofs.texts.eight.Statement.{statement}
 use Rattle.cases.proofs.texts.eight.Tie as tie
-use Rattle.cases.proofs.texts.eight.Reads as reads
-use Rattle.cases.proofs.texts.eight.Lts as lts
-use Rattle.cases.proofs.fields.long.Reads as long-reads
 
 abbrev Inv-loop : tie.InvT-loop
 Inv-loop column v d₀ i₀ d i = i ≤ 8
