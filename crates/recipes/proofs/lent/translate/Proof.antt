@@ -5,6 +5,7 @@ use Prim.Native.Nat.{ℕ, suc, _+_, _-_, _*_, _<_, _≤_, _^_}
 use native.Mathlib.Omega.{arith}
 use mathlib.Core.Bool.{Bool, true, false}
 use mathlib.Core.List.{List, [], _∷_, _++_, map, map-map, append-assoc}
+use mathlib.Core.Option.{some as just}
 use mathlib.Core.WellFounded.{WellFounded, InvImage·wf}
 use lib.WfN.{Nat·lt-wfRel}
 use lib.Dec.{T as Holds, ltb}
@@ -70,10 +71,13 @@ use Rattle.recipes.proofs.types.Translated as O
 use Rattle.recipes.proofs.types.Translated.Laws as O′
 use Rattle.recipes.proofs.translator.translate_array as make
 use Rattle.recipes.proofs.translator.translate_array.Symbol as make-def
+use Rattle.recipes.proofs.translator.translate_array.Symbol.{name as #make}
 use Rattle.recipes.proofs.translator.translate_array.Met as make-thm
 use Rattle.recipes.proofs.lent.settle as settle
 use Rattle.recipes.proofs.lent.settle.Symbol as settle-def
+use Rattle.recipes.proofs.lent.settle.Symbol.{name as #settle}
 use Rattle.recipes.proofs.lent.settle.Met as settle-thm
+use Rattle.recipes.proofs.lent.translate.Key.{name as #translate}
 use Rattle.recipes.proofs.lent.translate as translate
 use Rattle.recipes.proofs.lent.translate.Statement as stated
 use Rattle.recipes.proofs.lent.translate.Code as code

@@ -51,7 +51,9 @@ use Rattle.step.proofs.lent.Told as R
 use Rattle.step.proofs.lent.Told.Laws as R′
 use Rattle.step.proofs.steps.perform as perform
 use Rattle.step.proofs.steps.perform.Symbol as perform-def
+use Rattle.step.proofs.steps.perform.Symbol.{name as #perform}
 use Rattle.step.proofs.steps.perform.Met as perform-thm
+use Rattle.step.proofs.lent.perform_in.Key.{name as #perform-in}
 use Rattle.step.proofs.lent.perform_in as perform-in
 use Rattle.step.proofs.lent.perform_in.Statement as stated
 use Rattle.step.proofs.lent.perform_in.Code as code
