@@ -2,9 +2,9 @@
 # native.sh NAME: the static library of a proved crate for the machine that this runs on.
 # Run it in the folder that has crates.txt. Result: target/native/libNAME.a; nothing is written outside target/.
 #
-# `rt staticlib NAME` writes x86-64 code. On x86-64 its archive is copied. Elsewhere (Arm) this makes the same
-# build, takes the LLVM module that the kit hands to its clang there, drops the lines that name x86-64, and
-# compiles it with the same clang at the same -O3 for this machine.
+# The kit compiles for x86-64. There this makes the build of `rt staticlib NAME`. Elsewhere (Arm) it takes the LLVM module that the
+# kit hands to its clang in that build, drops the lines that name x86-64, and compiles it with the same clang at the same -O3 for this
+# machine. Two at once, of different crates, do not disturb each other.
 set -eu
 [ $# -eq 1 ] && [ -f crates.txt ] || {
     echo "usage: native.sh NAME, in the folder that has crates.txt" >&2
@@ -24,22 +24,21 @@ proved() { # COMMAND..: of rt, silent unless it fails
     }
 }
 mkdir -p "$out"
-if [ "$machine" = x86_64 ]; then
-    proved rt staticlib "$name"
-    cp "target/staticlib/lib$name.a" "$out/"
-    exit
-fi
-
-# What was compiled of the crate as it stands is kept: rt's stamp sums its files and those below it.
+# Two rt at once would write the same files; ./run takes the same lock.
+exec 8>target/run.lock
+! command -v flock >/dev/null || flock 8
 proved rt check "$name"
+exec 8>&-
+# What was compiled of the crate as it stands is kept: rt's stamp sums its files and those below it.
 [ -f "$out/lib$name.a" ] && cmp -s "$out/$name.stamp" "target/stamp/$name" && exit
 
 home=${RATTLE_HOME:-$(dirname "$(dirname "$(rt doc)")")}
 kit=$home/on/$machine
-tools=$out/toolchain
+tools=$kit/toolchain
 
 # A toolchain folder like the kit's, whose clang keeps the module that it is handed.
 keeping_toolchain() {
+    tools=$out/toolchain-$name
     mkdir -p "$tools/bin"
     for tool in ld.lld llvm-ar; do ln -sfn "$kit/toolchain/bin/$tool" "$tools/bin/$tool"; done
     ln -sfn "$kit/toolchain/lib" "$tools/lib"
@@ -51,8 +50,8 @@ CLANG
     chmod +x "$tools/bin/clang"
 }
 
-# The build that `rt staticlib` makes, with that toolchain: it proves the crate, and only then compiles it.
-keep_module() {
+# The build that `rt staticlib` makes: it proves the crate, and only then compiles it.
+build() {
     set --
     for dep in $(sed "s/#.*//" crates.txt | sed -n "s/^$name://p"); do
         from=target/rlib
@@ -81,7 +80,12 @@ compile_here() {
 }
 
 rm -f "$out/lib$name.a" "$out/$name.stamp"
-keeping_toolchain
-keep_module
-compile_here
+if [ "$machine" = x86_64 ]; then
+    build
+    mv "$out/x86_64-$name.a" "$out/lib$name.a"
+else
+    keeping_toolchain
+    build
+    compile_here
+fi
 cp "target/stamp/$name" "$out/$name.stamp"
