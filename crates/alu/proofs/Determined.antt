@@ -34,9 +34,6 @@ use Rattle.alu.proofs.integer_arith.exec_neg.Reads as exec-neg
 use Rattle.alu.proofs.integer_arith.exec_negx.Reads as exec-negx
 use Rattle.alu.proofs.integer_arith.exec_not.Reads as exec-not
 use Rattle.alu.proofs.integer_arith.exec_ext.Reads as exec-ext
-use Rattle.alu.proofs.integer_arith.set_add_flags.Reads as set-add-flags
-use Rattle.alu.proofs.integer_arith.set_sub_flags.Reads as set-sub-flags
-use Rattle.alu.proofs.integer_arith.set_cmp_flags.Reads as set-cmp-flags
 use Rattle.alu.proofs.integer_arith.set_logic_flags.Reads as set-logic-flags
 use Rattle.alu.proofs.integer_arith.exec_chk.Reads as exec-chk
 use Rattle.alu.proofs.shift_rotate.exec_asl.Reads as exec-asl
@@ -92,9 +89,6 @@ determined =
     fixed exec-negx.Learnt (one-equation _) ∷
     fixed exec-not.Learnt (one-equation _) ∷
     fixed exec-ext.Learnt (one-equation _) ∷
-    fixed set-add-flags.Learnt (one-equation _) ∷
-    fixed set-sub-flags.Learnt (one-equation _) ∷
-    fixed set-cmp-flags.Learnt (one-equation _) ∷
     fixed set-logic-flags.Learnt (one-equation _) ∷
     fixed exec-chk.Learnt (one-equation _) ∷
     fixed exec-asl.Learnt (one-equation _) ∷

@@ -16,10 +16,10 @@ use Rattle.alu.specs.Answers.{numberOf, classOf}
 use Rattle.alu.specs.Arith.{addOf, addxOf, subxOf, negOf, chkOf}
 use Rattle.alu.specs.Shifts.{shiftOf}
 
--- what a row says of a flag: set, clear, as it was before the operation, or anything
+-- what a row says of a flag: set (on), clear (off), the same as before the operation, or anything
 pub data Said : Type 0 where
-  set : Said
-  clear : Said
+  on : Said
+  off : Said
   same : Said
   any : Said
 
@@ -37,29 +37,29 @@ withX f = record { x = true; n = f .n; z = f .z; v = f .v; c = f .c }
 unfoldable pub table : List Row
 table =
     -- operation (source, then destination), result, then X N Z V C
-    gives (addOf Byte 0x01 0x7f) 0x80 clear set clear set clear ∷  -- 1
-    gives (addOf Byte 0x01 0xff) 0x00 set clear set clear set ∷  -- 2
-    gives (λ f. addxOf Long 0 0xffff_ffff (withX f)) 0 set any same any set ∷  -- 3
-    gives (λ f. subxOf Byte 0xff 0x00 (withX f)) 0x00 set any same clear set ∷  -- 4
-    gives (negOf Byte 0x80) 0x80 set set clear set set ∷  -- 5
+    gives (addOf Byte 0x01 0x7f) 0x80 off on off on off ∷  -- 1
+    gives (addOf Byte 0x01 0xff) 0x00 on off on off on ∷  -- 2
+    gives (λ f. addxOf Long 0 0xffff_ffff (withX f)) 0 on any same any on ∷  -- 3
+    gives (λ f. subxOf Byte 0xff 0x00 (withX f)) 0x00 on any same off on ∷  -- 4
+    gives (negOf Byte 0x80) 0x80 on on off on on ∷  -- 5
     -- shifts: count, then value
-    gives (shiftOf Asl Byte 8 0x01) 0x00 set any set set set ∷  -- 6, by 8
-    gives (shiftOf Asl Byte 9 0x01) 0x00 clear any set set clear ∷  -- 6, by 9
-    gives (shiftOf Asr Byte 9 0x80) 0xff set set any any set ∷  -- 7
-    gives (shiftOf Lsl Byte 0 0x1234) 0x1234 any clear clear clear clear ∷  -- 8, by 0
-    gives (shiftOf Lsl Byte 64 0x1234) 0x1234 any clear clear clear clear ∷  -- 8, by 64
-    givesIn 22 (shiftOf Rol Byte 8 0x81) 0x81 any set any any set ∷  -- 9
-    givesIn 40 (λ f. shiftOf Roxl Word 17 0x8001 (withX f)) 0x8001 set set any any set ∷  -- 10
+    gives (shiftOf Asl Byte 8 0x01) 0x00 on any on on on ∷  -- 6, by 8
+    gives (shiftOf Asl Byte 9 0x01) 0x00 off any on on off ∷  -- 6, by 9
+    gives (shiftOf Asr Byte 9 0x80) 0xff on on any any on ∷  -- 7
+    gives (shiftOf Lsl Byte 0 0x1234) 0x1234 any off off off off ∷  -- 8, by 0
+    gives (shiftOf Lsl Byte 64 0x1234) 0x1234 any off off off off ∷  -- 8, by 64
+    givesIn 22 (shiftOf Rol Byte 8 0x81) 0x81 any on any any on ∷  -- 9
+    givesIn 40 (λ f. shiftOf Roxl Word 17 0x8001 (withX f)) 0x8001 on on any any on ∷  -- 10
     -- CHK: bound, then value; class, then N
     finds (chkOf Word 0x0001 0x8000) Short any ∷  -- 11, 8000 bound 0001
     finds (chkOf Word 0x0000 0x8000) Below any ∷  -- 11, 8000 bound 0000
-    finds (chkOf Word 0xfffe 0xffff) Over set ∷  -- 11, FFFF bound FFFE
+    finds (chkOf Word 0xfffe 0xffff) Over on ∷  -- 11, FFFF bound FFFE
     finds (chkOf Word 5 5) Pass any ∷ []  -- 11, 5 bound 5
 
 -- `after` is what a row says of a flag that was `before`
 abbrev pub meets : Said → (before after : Bool) → Bool
-meets set before after = after
-meets clear before after = not after
+meets on before after = after
+meets off before after = not after
 meets same before after = Bool·beq before after
 meets any before after = true
 

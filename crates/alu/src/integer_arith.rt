@@ -276,7 +276,7 @@ pub fn exec_ext(size: Size, dst: u32, flags: Flags) -> Answer
 
 // The flags after `result` = `dst` + `src`, with or without X. V: both operands have the one sign and
 // the result the other. C: both top bits are set, or one is and the result's is not.
-pub fn set_add_flags(size: Size, src: u32, dst: u32, result: u32) -> Flags
+fn set_add_flags(size: Size, src: u32, dst: u32, result: u32) -> Flags
     ensures { λ r. ⌜ r ≡ addFlags (bitsOf size) src dst result ⌝ }
 {
     let overflow = (src ^ result) & (dst ^ result);
@@ -286,7 +286,7 @@ pub fn set_add_flags(size: Size, src: u32, dst: u32, result: u32) -> Flags
 
 // The flags after `result` = `dst` - `src`, with or without X. It is the addition `src` + `result` =
 // `dst`, so V and C are as above with `result` and `dst` exchanged.
-pub fn set_sub_flags(size: Size, src: u32, dst: u32, result: u32) -> Flags
+fn set_sub_flags(size: Size, src: u32, dst: u32, result: u32) -> Flags
     ensures { λ r. ⌜ r ≡ subFlags (bitsOf size) src dst result ⌝ }
 {
     let overflow = (src ^ dst) & (result ^ dst);
@@ -295,7 +295,7 @@ pub fn set_sub_flags(size: Size, src: u32, dst: u32, result: u32) -> Flags
 }
 
 // The same for CMP, which keeps X.
-pub fn set_cmp_flags(size: Size, src: u32, dst: u32, result: u32, flags: Flags) -> Flags
+fn set_cmp_flags(size: Size, src: u32, dst: u32, result: u32, flags: Flags) -> Flags
     ensures { λ r. ⌜ r ≡ keepX flags (subFlags (bitsOf size) src dst result) ⌝ }
 {
     let new = set_sub_flags(size, src, dst, result);

@@ -4,7 +4,7 @@
 //
 // The figure FF stands for none: the crate returns no figure of ADDX and SUBX. The class is CHK's, 0 of
 // the others; 1 stands for Over or Short, which the crate doesn't tell apart.
-ghost use Prim.Native.Nat.{_+_, _<_, _≤_};
+ghost use Prim.Native.Nat.{_+_, _<_, _≤_, _^_};
 
 pub(crate) struct Line {
     pub op: u8,
@@ -28,7 +28,7 @@ fn digit(b: u8) -> u32
 
 fn two(line: &[u8; 43], at: usize) -> u32
     requires { ⌜ at + 2 ≤ 43 ⌝ }
-    ensures { λ r. ⌜ r < 256 ⌝ }
+    ensures { λ r. ⌜ r < 2 ^ 8 ⌝ }
 {
     digit(line[at]) * 16 + digit(line[at + 1])
 }

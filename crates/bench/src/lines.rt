@@ -1,8 +1,12 @@
 // Which line of a recipe a step comes from, and which number the line changes.
-ghost use Prim.Native.Nat.{_≤_};
+ghost use Prim.Native.Nat.{_<_, _≤_};
+ghost use Rattle.recipes.specs.Recipe.{linesMax};
+use recipes::types::LINES_MAX;
 use recipes::types::Line;
 use recipes::types::Recipe;
 use recipes::types::Verb;
+
+const LAST: usize = LINES_MAX - 1;
 
 // The steps that a line takes.
 fn steps_of(width: u8, verb: Verb) -> usize
@@ -16,14 +20,14 @@ fn steps_of(width: u8, verb: Verb) -> usize
     }
 }
 
-// The recipe line, from 0, that the step at a place comes from: the last of 32 where it is none before.
+// The recipe line, from 0, that the step at a place comes from: the last that there may be where it is none before.
 pub(crate) fn line_at(recipe: Recipe, place: usize) -> usize
-    ensures { λ r. ⌜ r ≤ 31 ⌝ }
+    ensures { λ r. ⌜ r < linesMax ⌝ }
 {
     let lines = recipe.lines;
     let mut end = 0;
     let mut k = 0;
-    while k < 31 {
+    while k < LAST {
         let line = lines[k];
         let verb = line.verb;
         end += steps_of(recipe.width, verb);

@@ -1,7 +1,8 @@
-// Shows a recipe's listing running. The recipe's text is the first 1,024 bytes of standard input; the words that the
+// Shows a recipe's listing running. The recipe's text is the first `TEXT_MAX` bytes of standard input; the words that the
 // program is started with give the registers and flags, the start place and the number of steps (words.rt). Standard
 // output gets a table for people (table.rt) or plain rows (rows.rt), and of a refused recipe its refusal. Where a word is
 // not understood, or reading or writing fails, standard error says so.
+mod carry;
 mod course;
 mod ending;
 mod input;
@@ -19,6 +20,7 @@ use recipes::printer::print_refusal;
 use recipes::reader::read;
 use recipes::translator::translate_array;
 use recipes::types::Recipe;
+use recipes::types::TEXT_MAX;
 use recipes::types::number;
 use words::Asked;
 use words::read_words;
@@ -33,8 +35,11 @@ fn put_run(out: &mut [u8], asked: Asked, text: &[u8], recipe: Recipe) -> usize {
     }
 }
 
-// The whole answer to a text. An array of 65,536 bytes has room for any: a table has at most 260 rows of 151 bytes, and less
-// than 1,000 bytes above and below them; plain rows are at most 257 of 158 bytes.
+// Room for any answer: a table has at most 260 rows of 151 bytes, and less than 3,000 bytes above and below them; plain rows
+// are at most 257 of 158 bytes.
+const ROOM: usize = 65536;
+
+// The whole answer to a text.
 fn answer(out: &mut [u8], asked: Asked, text: &[u8]) -> usize {
     let reading = read(text);
     let refusal = reading.refusal;
@@ -51,14 +56,14 @@ fn main() {
         return;
     }
     let asked = words.asked;
-    let mut text = [0u8; 1024];
+    let mut text = [0u8; TEXT_MAX];
     let input = read_text(&mut text);
     if !input.ok {
         os::fail(b"bench: standard input");
         return;
     }
     let n = input.n;
-    let mut out = [0u8; 65536];
+    let mut out = [0u8; ROOM];
     let m = answer(&mut out, asked, &text[..n]);
     let m = within(m, &out);
     if !io::write_all(STDOUT_FILENO, &out[..m]) {

@@ -1,5 +1,5 @@
 // The numbers of a recipe, by width: which registers they are, and their whole value in decimal.
-ghost use Prim.Native.Nat.{_<_, _≤_};
+ghost use Prim.Native.Nat.{_<_, _≤_, _*_, _^_};
 use crate::pen::BLANK;
 use crate::pen::Pen;
 use crate::pen::put;
@@ -20,7 +20,7 @@ struct Tenth {
 }
 
 fn wide(x: u8) -> usize
-    ensures { λ r. ⌜ r < 256 ⌝ }
+    ensures { λ r. ⌜ r < 2 ^ 8 ⌝ }
 {
     x as usize
 }
@@ -40,7 +40,7 @@ pub(crate) fn count_of(width: u8) -> u8
 
 // The number of the lowest register of number k.
 fn lowest_of(width: u8, k: u8) -> usize
-    ensures { λ r. ⌜ r < 1024 ⌝ }
+    ensures { λ r. ⌜ r < 4 * 2 ^ 8 ⌝ }
 {
     if width == 1 {
         wide(k)
@@ -53,7 +53,7 @@ fn lowest_of(width: u8, k: u8) -> usize
 
 // Word i of the number from register `low` on; 0 past its highest.
 fn word_of(width: u8, d: [u32; 8], low: usize, i: u8) -> u32
-    requires { ⌜ low < 1024 ⌝ }
+    requires { ⌜ low < 4 * 2 ^ 8 ⌝ }
 {
     let r = low + wide(i);
     if width <= i {

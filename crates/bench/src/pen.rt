@@ -13,16 +13,19 @@ pub(crate) const BLANK: u8 = 32;
 
 const HEX: [u8; 16] = *b"0123456789ABCDEF";
 
-// A line as far as it is written, and the place to write at. The longest, which says how to go on, has less than 250 bytes.
+// Room for a line: the longest, which says how to go on, has less than 250 bytes.
+const LINE_ROOM: usize = 256;
+
+// A line as far as it is written, and the place to write at.
 pub(crate) struct Pen {
-    pub line: [u8; 256],
+    pub line: [u8; LINE_ROOM],
     pub at: usize,
 }
 
 // A line with nothing in it.
 pub(crate) fn at_start() -> Pen {
     Pen {
-        line: [0; 256],
+        line: [0; LINE_ROOM],
         at: 0,
     }
 }
@@ -30,7 +33,7 @@ pub(crate) fn at_start() -> Pen {
 pub(crate) fn put_byte(pen: Pen, b: u8) -> Pen {
     let at = pen.at;
     let mut line = pen.line;
-    if at < 256 {
+    if at < LINE_ROOM {
         line[at] = b;
         return Pen { line, at: at + 1 };
     }
@@ -73,7 +76,7 @@ pub(crate) fn put_line(out: &mut [u8], at: usize, pen: Pen) -> usize {
     let line = ended.line;
     let mut next = at;
     let mut i = 0;
-    while i < 256 {
+    while i < LINE_ROOM {
         if ended.at <= i {
             return next;
         }

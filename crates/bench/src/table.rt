@@ -1,6 +1,9 @@
 // A run as a table: all numbers at the start; of each step its place, the step, the text line that it comes from, the register
 // that it changed, the flags, the clocks so far, and the number that it works on; all numbers at the end, and how it ended.
-ghost use Prim.Native.Nat.{_≤_};
+ghost use Prim.Native.Nat.{_<_};
+ghost use Rattle.recipes.specs.Recipe.{linesMax};
+use crate::carry::carried;
+use crate::carry::put_carries;
 use crate::course::not_begun;
 use crate::course::one_more;
 use crate::course::whole_run;
@@ -32,7 +35,9 @@ use crate::pen::within;
 use crate::words::Asked;
 use alu::types::Flags;
 use recipes::printer::print;
+use recipes::types::LINES_MAX;
 use recipes::types::Listing;
+use recipes::types::PRINT_MAX;
 use recipes::types::Recipe;
 use step::runs::Ran;
 
@@ -165,7 +170,7 @@ fn put_step(pen: Pen, printed: &[u8], place: usize) -> Pen {
 
 // Recipe line k, from 0, is line k + 1 of the text, from 0, and is called k + 2.
 fn put_text(pen: Pen, text: &[u8], k: usize) -> Pen
-    requires { ⌜ k ≤ 31 ⌝ }
+    requires { ⌜ k < linesMax ⌝ }
 {
     let next = put_right(pen, LINE + 2, k as u64 + 2);
     let next = put_byte(next, BLANK);
@@ -241,9 +246,16 @@ fn put_top(out: &mut [u8], asked: Asked, recipe: Recipe, steps: usize) -> usize 
 }
 
 // What stands below the steps.
-fn put_bottom(out: &mut [u8], at: usize, width: u8, ran: Ran) -> usize {
-    let next = put_standing(out, at, b"end", width, ran);
+fn put_bottom(
+    out: &mut [u8],
+    at: usize,
+    recipe: Recipe,
+    told: [bool; LINES_MAX],
+    ran: Ran,
+) -> usize {
+    let next = put_standing(out, at, b"end", recipe.width, ran);
     let next = put_line(out, next, at_start());
+    let next = put_carries(out, next, recipe, told);
     put_ending(out, next, ran)
 }
 
@@ -257,7 +269,7 @@ pub(crate) fn put_run(
 ) -> usize {
     let width = recipe.width;
     let listing = made.steps;
-    let mut printed = [0u8; 20480];
+    let mut printed = [0u8; PRINT_MAX];
     let n = print(width, listing, made.count, &mut printed);
     let n = within(n, &printed);
     let start = not_begun(asked);
@@ -274,5 +286,6 @@ pub(crate) fn put_run(
         start,
         ran.steps,
     );
-    put_bottom(out, next, width, ran)
+    let told = carried(recipe, made, start, ran.steps);
+    put_bottom(out, next, recipe, told, ran)
 }

@@ -5,6 +5,9 @@ use check::same;
 use libc::STDERR_FILENO;
 use step::registers::State;
 
+// The things that a word gives: the registers, the flags, `from`, `steps` and `rows`.
+const THINGS: usize = 24;
+
 // What is asked for: the state to start with, the start place, the steps that may be done, and whether as plain rows.
 pub(crate) struct Asked {
     pub state: State,
@@ -163,11 +166,15 @@ fn read_word(word: &[u8]) -> Word {
     Word::Unknown
 }
 
-fn report(word: &[u8]) {
+fn report(word: &[u8], why: &[u8]) {
     io::write_all(STDERR_FILENO, b"bench: ");
     io::write_all(STDERR_FILENO, word);
-    io::write_all(
-        STDERR_FILENO,
+    io::write_all(STDERR_FILENO, why);
+}
+
+fn report_unknown(word: &[u8]) {
+    report(
+        word,
         b" is not understood: D0=HEX..D7=HEX, A0=HEX..A7=HEX, X= N= Z= V= C= 0 or 1, from=PLACE, steps=COUNT, rows\n",
     );
 }
@@ -180,17 +187,53 @@ fn is_unknown(word: Word) -> bool {
     }
 }
 
-// Word i. One that is not understood is reported.
-fn word_at(i: usize) -> Word {
+// The number of a flag among the things.
+fn flag_thing(name: u8) -> usize
+    ensures { λ r. ⌜ r < 24 ⌝ }
+{
+    match name {
+        b'X' => 16,
+        b'N' => 17,
+        b'Z' => 18,
+        b'V' => 19,
+        _ => 20,
+    }
+}
+
+// The number of the thing that a word gives.
+fn thing(word: Word) -> usize
+    ensures { λ r. ⌜ r < 24 ⌝ }
+{
+    match word {
+        Word::Data(r, _) => r % 8,
+        Word::Address(r, _) => 8 + r % 8,
+        Word::Flag(name, _) => flag_thing(name),
+        Word::From(_) => 21,
+        Word::Steps(_) => 22,
+        Word::Rows => 23,
+        Word::Unknown => 0,
+    }
+}
+
+// Word i. One that is not understood, or gives a thing that is given, is reported.
+fn word_at(i: usize, given: [bool; THINGS]) -> Word {
     let mut buffer = [0u8; 64];
     let n = os::arg(i, &mut buffer);
     if os::errno() != 0 {
-        report(b"a word of more than 64 bytes");
+        report_unknown(b"a word of more than 64 bytes");
         return Word::Unknown;
     }
     let word = read_word(&buffer[..n]);
     if is_unknown(word) {
-        report(&buffer[..n]);
+        report_unknown(&buffer[..n]);
+        return word;
+    }
+    if given[thing(word)] {
+        report(
+            &buffer[..n],
+            b" is a second word for the same thing: each is given once\n",
+        );
+        return Word::Unknown;
     }
     word
 }
@@ -286,19 +329,21 @@ fn with_word(asked: Asked, word: Word) -> Asked {
     }
 }
 
-// All words; reading ends at the first that is not understood. Word 0 is the program's own name.
+// All words; reading ends at the first that is not understood, or given a second time. Word 0 is the program's own name.
 pub(crate) fn read_words() -> Words {
     let count = os::arg_count();
     let mut asked = unasked();
+    let mut given = [false; THINGS];
     let mut i = 1;
     while i < count {
-        let word = word_at(i);
+        let word = word_at(i, given);
         if is_unknown(word) {
             return Words {
                 asked,
                 understood: false,
             };
         }
+        given[thing(word)] = true;
         asked = with_word(asked, word);
         i += 1;
     }

@@ -34,11 +34,11 @@ abbrev pub ccrOf : Flags → ℕ
 ccrOf f = digit (f .x) * 16 + digit (f .n) * 8 + digit (f .z) * 4 + digit (f .v) * 2 + digit (f .c)
 
 -- the answer: the result in bits 0 to 31, the flags in 32 to 36, the low 8 bits of the clock figure in 40 to 47 (every figure of document 01 is
--- below 256), the refusal number in 48 and 49, CHK's class in 52 and 53; all other bits are 0
+-- below 2 ^ 8), the refusal number in 48 and 49, CHK's class in 52 and 53; all other bits are 0
 abbrev pub packed : Checked → ℕ
 packed k =
     let a = k .answer in
-    a .result + ccrOf (a .flags) * 2 ^ 32 + a .clocks % 256 * 2 ^ 40 + numberOf (a .verdict) * 2 ^ 48 + classOf (k .check) * 2 ^ 52
+    a .result + ccrOf (a .flags) * 2 ^ 32 + a .clocks % 2 ^ 8 * 2 ^ 40 + numberOf (a .verdict) * 2 ^ 48 + classOf (k .check) * 2 ^ 52
 
 -- an answer without a class: Pass, packed as 0
 abbrev pub plain : Answer → Checked

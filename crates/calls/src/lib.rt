@@ -117,7 +117,7 @@ fn pack(a: Answer) -> u64
     let verdict = a.verdict;
     a.result as u64
         + ccr_of(flags) * 0x1_0000_0000
-        + (a.clocks % 256) as u64 * 0x100_0000_0000
+        + (a.clocks % 0x100) as u64 * 0x100_0000_0000
         + number_of(verdict) * 0x1_0000_0000_0000
 }
 

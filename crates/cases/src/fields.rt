@@ -2,11 +2,13 @@
 ghost use Prim.Native.Nat.{_+_, _≤_};
 ghost use mathlib.Core.Path.{_≡_};
 ghost use lib.ListN.{length};
+ghost use Rattle.recipes.specs.Printer.{printMax};
+use recipes::types::PRINT_MAX;
 
 const TAB: u8 = 9;
 
 // Room for a text: as much as is printed of any listing.
-pub(crate) const ROOM: usize = 20480;
+pub(crate) const ROOM: usize = PRINT_MAX;
 
 // As many columns as a row may have.
 pub(crate) const COLUMNS: usize = 320;
@@ -82,7 +84,7 @@ fn one_if(so: bool) -> usize
 
 // The text of the field behind a tab goes to `out`. What is written before a byte is whole the byte then overwrites.
 pub(crate) fn text_of(row: &[u8], tab: usize, out: &mut [u8]) -> Text
-    requires { ⌜ length (now out) ≡ 20480 ⌝ }
+    requires { ⌜ length (now out) ≡ printMax ⌝ }
 {
     let mut length = 0;
     let mut state = 0;

@@ -13,7 +13,7 @@ use libc::STDOUT_FILENO;
 // Room for a file. One that fills it is too long, and its last line is not whole.
 const FILE: usize = 65536;
 
-const LAST: usize = 65535;
+const LAST: usize = FILE - 1;
 
 enum Kind {
     Refusals,

@@ -4,6 +4,7 @@
 // Of recipes.tsv, by their columns: 2 flags, 3 to 10 D0 to D7 before; 11 to 15 what is told (bindings/c/gromavelush.h); 16 flags,
 // 17 to 24 D0 to D7 after. The address registers have fixed values and keep them.
 ghost use Prim.Native.Nat.{_+_, _≤_};
+ghost use Rattle.recipes.specs.Printer.{printMax};
 use crate::fields::COLUMNS;
 use crate::fields::ROOM;
 use crate::fields::byte;
@@ -58,7 +59,7 @@ fn runs_as_told(row: &[u8], tab: usize, text: &[u8]) -> bool {
 }
 
 fn within(length: usize) -> usize
-    ensures { λ r. ⌜ r ≤ 20480 ⌝ }
+    ensures { λ r. ⌜ r ≤ printMax ⌝ }
 {
     if length <= ROOM { length } else { 0 }
 }

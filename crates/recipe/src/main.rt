@@ -1,8 +1,10 @@
-// Reads a recipe from standard input and prints its listing, or its refusal, on standard output. Only the first 1,024
-// bytes of the input are read: a longer text meets its refusal within them. Where reading or writing fails, standard
+// Reads a recipe from standard input and prints its listing, or its refusal, on standard output. Only the first
+// `TEXT_MAX` bytes of the input are read: a longer text meets its refusal within them. Where reading or writing fails, standard
 // error says why; the exit status is 0 all the same, since the language has no other.
 use libc::STDIN_FILENO;
 use libc::STDOUT_FILENO;
+use recipes::types::PRINT_MAX;
+use recipes::types::TEXT_MAX;
 ghost use Prim.Native.Nat.{_≤_};
 ghost use mathlib.Core.Path.{_≡_};
 ghost use lib.ListN.{length, take};
@@ -42,7 +44,7 @@ fn read_text(text: &mut [u8]) -> Input
 }
 
 // The whole answer to a text: the slice has room for any (`answer-short` of recipes/proofs/Room).
-fn answer(text: &[u8], out: &mut [u8; 20480]) -> usize
+fn answer(text: &[u8], out: &mut [u8; PRINT_MAX]) -> usize
     ensures { λ r. ⌜ Counts r (now (out .exit)) ⌝ }
     ensures { λ r. ⌜ take r (now (out .exit)) ≡ answerOf (now (text .entry)) ⌝ }
 {
@@ -50,14 +52,14 @@ fn answer(text: &[u8], out: &mut [u8; 20480]) -> usize
 }
 
 fn main() {
-    let mut text = [0u8; 1024];
+    let mut text = [0u8; TEXT_MAX];
     let input = read_text(&mut text);
     if !input.ok {
         os::fail(b"recipe: standard input");
         return;
     }
     let n = input.n;
-    let mut out = [0u8; 20480];
+    let mut out = [0u8; PRINT_MAX];
     let m = answer(&text[..n], &mut out);
     if !io::write_all(STDOUT_FILENO, &out[..m]) {
         os::fail(b"recipe: standard output");

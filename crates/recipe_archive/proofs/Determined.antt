@@ -9,7 +9,6 @@ use prog.Wp.{Heap}
 use ghost.Atoms.{Atoms}
 use contract.Monad.{Fun}
 use contract.Lifetimes.{Lfts}
-use denote.Ref.{now}
 use denote.Triple.Entry.{Args}
 use Rattle.step.proofs.Determined.{OneExit}
 use Rattle.recipes.specs.Text.{written}
@@ -24,28 +23,28 @@ use Rattle.recipe_archive.proofs.recipe_run as recipe-run
 
 module _ {M : Type 1} (𝓤 : URA M) (H : Heap 𝓤) (A : Atoms 𝓤) (mem : Memory → SProp 𝓤) (go : Routine → Fun 𝓤) where
   pub recipe-read-determined :
-      (κs : Lfts 3) (a : Args recipe-read.signature κs) → OneExit 𝓤 (λ r e. rowLeft (now (e .1 .0)) (now (e .1 .1 .0))) (recipe-read.clauses 𝓤 H A mem go κs a .ensures tt)
+      (κs : Lfts 3) (a : Args recipe-read.signature κs) → OneExit 𝓤 recipe-read.ended κs a (λ r ws. rowLeft (ws .1 .0) (ws .1 .1 .0)) (recipe-read.clauses 𝓤 H A mem go κs a .ensures tt)
   recipe-read-determined κs a = of.recipe-read-determined 𝓤 H A mem go κs a
 
   pub recipe-translate-determined :
       (κs : Lfts 3) (a : Args recipe-translate.signature κs) →
-      OneExit 𝓤 (λ r e. rowLeft (now (e .1 .1 .1 .0)) (now (e .1 .1 .1 .1 .0))) (recipe-translate.clauses 𝓤 H A mem go κs a .ensures tt)
+      OneExit 𝓤 recipe-translate.ended κs a (λ r ws. rowLeft (ws .1 .1 .1 .0) (ws .1 .1 .1 .1 .0)) (recipe-translate.clauses 𝓤 H A mem go κs a .ensures tt)
   recipe-translate-determined κs a = of.recipe-translate-determined 𝓤 H A mem go κs a
 
   pub listing-run-determined :
       (κs : Lfts 5) (a : Args listing-run.signature κs) →
-      OneExit 𝓤 (λ r e. stateLeft (now (e .1 .0)) (now (e .1 .1 .0)) (now (e .1 .1 .1 .0)) (now (e .1 .1 .1 .1 .1 .1 .0))) (listing-run.clauses 𝓤 H A mem go κs a .ensures tt)
+      OneExit 𝓤 listing-run.ended κs a (λ r ws. stateLeft (ws .1 .0) (ws .1 .1 .0) (ws .1 .1 .1 .0) (ws .1 .1 .1 .1 .1 .1 .0)) (listing-run.clauses 𝓤 H A mem go κs a .ensures tt)
   listing-run-determined κs a = of.listing-run-determined 𝓤 H A mem go κs a
 
   pub listing-print-determined :
-      (κs : Lfts 2) (a : Args listing-print.signature κs) → OneExit 𝓤 (λ r e. written (now (e .1 .1 .0)) r) (listing-print.clauses 𝓤 H A mem go κs a .ensures tt)
+      (κs : Lfts 2) (a : Args listing-print.signature κs) → OneExit 𝓤 listing-print.ended κs a (λ r ws. written (ws .1 .1 .0) r) (listing-print.clauses 𝓤 H A mem go κs a .ensures tt)
   listing-print-determined κs a = of.listing-print-determined 𝓤 H A mem go κs a
 
   pub recipe-answer-determined :
-      (κs : Lfts 2) (a : Args recipe-answer.signature κs) → OneExit 𝓤 (λ r e. written (now (e .1 .0)) r) (recipe-answer.clauses 𝓤 H A mem go κs a .ensures tt)
+      (κs : Lfts 2) (a : Args recipe-answer.signature κs) → OneExit 𝓤 recipe-answer.ended κs a (λ r ws. written (ws .1 .0) r) (recipe-answer.clauses 𝓤 H A mem go κs a .ensures tt)
   recipe-answer-determined κs a = of.recipe-answer-determined 𝓤 H A mem go κs a
 
   pub recipe-run-determined :
       (κs : Lfts 5) (a : Args recipe-run.signature κs) →
-      OneExit 𝓤 (λ r e. stateLeft (now (e .1 .0)) (now (e .1 .1 .0)) (now (e .1 .1 .1 .0)) (now (e .1 .1 .1 .1 .0))) (recipe-run.clauses 𝓤 H A mem go κs a .ensures tt)
+      OneExit 𝓤 recipe-run.ended κs a (λ r ws. stateLeft (ws .1 .0) (ws .1 .1 .0) (ws .1 .1 .1 .0) (ws .1 .1 .1 .1 .0)) (recipe-run.clauses 𝓤 H A mem go κs a .ensures tt)
   recipe-run-determined κs a = of.recipe-run-determined 𝓤 H A mem go κs a

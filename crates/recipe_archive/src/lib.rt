@@ -6,9 +6,10 @@ ghost use Rattle.recipes.specs.Text.{written, writing};
 ghost use Rattle.recipes.specs.Printer.{listingText, answerOf};
 ghost use Rattle.recipe_calls.specs.Words.{firstOf};
 ghost use Rattle.recipe_calls.specs.Calls.{rowLeft, stateLeft, readWords, translateWords, runWords, recipeRunWords};
+use recipes::types::LINES_MAX;
 
 #[no_mangle]
-pub extern "C" fn recipe_read(text: &[u8], lines: &mut [u32; 32], told: &mut [u64; 4])
+pub extern "C" fn recipe_read(text: &[u8], lines: &mut [u32; LINES_MAX], told: &mut [u64; 4])
     ensures { λ _. ⌜ rowLeft (now (lines .exit)) (now (told .exit)) ≡ readWords (now (text .entry)) ⌝ }
 {
     recipe_calls::recipe_read(text, lines, told);
@@ -18,7 +19,7 @@ pub extern "C" fn recipe_read(text: &[u8], lines: &mut [u32; 32], told: &mut [u6
 pub extern "C" fn recipe_translate(
     width: u8,
     count: usize,
-    lines: &[u32; 32],
+    lines: &[u32; LINES_MAX],
     listing: &mut [u64],
     told: &mut [u64; 3],
 )

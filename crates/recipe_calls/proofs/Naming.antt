@@ -19,10 +19,10 @@ use Rattle.recipe_calls.specs.declared.words.Made.{Made}
 use Rattle.recipe_calls.specs.declared.words.Made.the-variants.{Is, NoForm}
 use Rattle.recipe_calls.specs.declared.words.Named.{Named}
 use Rattle.recipe_calls.specs.declared.words.Named.the-variants as Named
-use Rattle.recipe_calls.specs.Words.{byteOf, operations, madeOf, sizedOf, named, noStep, stepOf, verbs, lineNamed, lineOf, namesVerb, saidOf}
+use Rattle.recipe_calls.specs.Words.{byteRadix, byteOf, operations, madeOf, sizedOf, named, noStep, stepOf, verbs, lineNamed, lineOf, namesVerb, saidOf}
 
-pub low : (w : ℕ) {b : ℕ} → b ≡ w % 256 → b ≡ byteOf 0 w
-low w e = e ∙ ap (λ x. x % 256) (sym (div-one w))
+pub low : (w : ℕ) {b : ℕ} → b ≡ w % byteRadix → b ≡ byteOf 0 w
+low w e = e ∙ ap (λ x. x % byteRadix) (sym (div-one w))
 
 -- what the bytes of a word make, where they are known
 made-by :

@@ -1,6 +1,6 @@
 -- Words there and back: the word of a step names that step, and so a listing that is handed out in words is run as it was made; the word of a line
 -- names that line. Assumes nothing.
---     word-names, words-name   a step, and a listing of at most 256
+--     word-names, words-name   a step, and a listing of at most `arraySlots`
 --     line-names               a line
 use Prim.Native.Nat.{ℕ, _+_, _*_, _/_, _%_, _<_, _≤_}
 use mathlib.Core.Path.{_≡_, refl, sym, _∙_}
@@ -27,31 +27,32 @@ use Rattle.step.specs.declared.steps.Count.the-variants as Count
 use Rattle.step.specs.declared.steps.Form.{Form}
 use Rattle.step.specs.declared.steps.Form.the-variants as Form
 use Rattle.step.specs.declared.steps.Step.{Step}
+use Rattle.step.specs.Run.{arraySlots}
 use Rattle.recipes.specs.declared.types.Verb.{Verb}
 use Rattle.recipes.specs.declared.types.Verb.the-variants as Verb
 use Rattle.recipes.specs.declared.types.Line.{Line}
 use Rattle.recipe_calls.specs.declared.words.Operation.the-variants.{Unknown, Two, Address, One, Shift, Bit}
 use Rattle.recipe_calls.specs.declared.words.Made.the-variants.{Is}
 use Rattle.recipe_calls.specs.declared.words.Named.the-variants as Named
-use Rattle.recipe_calls.specs.Words.{operations, madeOf, sizedOf, stepOf, firstOf, stepWord, verbs, verbNumber, lineOf, lineWord}
+use Rattle.recipe_calls.specs.Words.{byteRadix, operations, madeOf, sizedOf, stepOf, firstOf, stepWord, verbs, verbNumber, lineOf, lineWord}
 use Rattle.recipe_calls.specs.Words.{twoNumber, addressNumber, oneNumber, shiftNumber, bitNumber, sizeNumber, operationNumber, sourceKind, sourceNumber, destinationNumber}
 use Rattle.recipe_calls.proofs.Naming.{form-named, line-named}
 
 -- ---- bytes: what stands in one comes out of it
 
-byte-0 : (a b c d e : ℕ) → a < 256 → (a + b * 256 + c * 65536 + d * 16777216 + e * 4294967296) / 1 % 256 ≡ a
+byte-0 : (a b c d e : ℕ) → a < byteRadix → (a + b * 256 + c * 65536 + d * 16777216 + e * 4294967296) / 1 % 256 ≡ a
 byte-0 a b c d e h = omega arith
 
-byte-1 : (a b c d e : ℕ) → a < 256 → b < 256 → (a + b * 256 + c * 65536 + d * 16777216 + e * 4294967296) / 256 % 256 ≡ b
+byte-1 : (a b c d e : ℕ) → a < byteRadix → b < byteRadix → (a + b * 256 + c * 65536 + d * 16777216 + e * 4294967296) / 256 % 256 ≡ b
 byte-1 a b c d e h i = omega arith
 
-byte-2 : (a b c d e : ℕ) → a < 256 → b < 256 → c < 256 → (a + b * 256 + c * 65536 + d * 16777216 + e * 4294967296) / 65536 % 256 ≡ c
+byte-2 : (a b c d e : ℕ) → a < byteRadix → b < byteRadix → c < byteRadix → (a + b * 256 + c * 65536 + d * 16777216 + e * 4294967296) / 65536 % 256 ≡ c
 byte-2 a b c d e h i j = omega arith
 
-byte-3 : (a b c d e : ℕ) → a < 256 → b < 256 → c < 256 → d < 256 → (a + b * 256 + c * 65536 + d * 16777216 + e * 4294967296) / 16777216 % 256 ≡ d
+byte-3 : (a b c d e : ℕ) → a < byteRadix → b < byteRadix → c < byteRadix → d < byteRadix → (a + b * 256 + c * 65536 + d * 16777216 + e * 4294967296) / 16777216 % 256 ≡ d
 byte-3 a b c d e h i j k = omega arith
 
-byte-4 : (a b c d e : ℕ) → a < 256 → b < 256 → c < 256 → d < 256 → e < 256 → (a + b * 256 + c * 65536 + d * 16777216 + e * 4294967296) / 4294967296 % 256 ≡ e
+byte-4 : (a b c d e : ℕ) → a < byteRadix → b < byteRadix → c < byteRadix → d < byteRadix → e < byteRadix → (a + b * 256 + c * 65536 + d * 16777216 + e * 4294967296) / 4294967296 % 256 ≡ e
 byte-4 a b c d e h i j k l = omega arith
 
 -- ---- what stands in the table for an operation
@@ -113,26 +114,26 @@ size-found Long form = refl
 
 -- ---- the three bytes that are no operand's number
 
-two-small : (op : TwoOp) → twoNumber op < 256
+two-small : (op : TwoOp) → twoNumber op < byteRadix
 two-small Add = lit< tt
 two-small Sub = lit< tt
 two-small Cmp = lit< tt
 two-small Addx = lit< tt
 two-small Subx = lit< tt
 
-address-small : (op : AddressOp) → addressNumber op < 256
+address-small : (op : AddressOp) → addressNumber op < byteRadix
 address-small Adda = lit< tt
 address-small Suba = lit< tt
 address-small Cmpa = lit< tt
 
-one-small : (op : OneOp) → oneNumber op < 256
+one-small : (op : OneOp) → oneNumber op < byteRadix
 one-small Clr = lit< tt
 one-small Neg = lit< tt
 one-small Negx = lit< tt
 one-small Not = lit< tt
 one-small Ext = lit< tt
 
-shift-small : (op : ShiftOp) → shiftNumber op < 256
+shift-small : (op : ShiftOp) → shiftNumber op < byteRadix
 shift-small Asl = lit< tt
 shift-small Asr = lit< tt
 shift-small Lsl = lit< tt
@@ -142,13 +143,13 @@ shift-small Ror = lit< tt
 shift-small Roxl = lit< tt
 shift-small Roxr = lit< tt
 
-bit-small : (op : BitOp) → bitNumber op < 256
+bit-small : (op : BitOp) → bitNumber op < byteRadix
 bit-small Btst = lit< tt
 bit-small Bset = lit< tt
 bit-small Bclr = lit< tt
 bit-small Bchg = lit< tt
 
-operation-small : (form : Form) → operationNumber form < 256
+operation-small : (form : Form) → operationNumber form < byteRadix
 operation-small (Form.Two op p q) = two-small op
 operation-small (Form.Address op p q) = address-small op
 operation-small (Form.Quick Addq k (Register.Data q)) = lit< tt
@@ -160,7 +161,7 @@ operation-small (Form.Shift op k q) = shift-small op
 operation-small (Form.Bit op k q) = bit-small op
 operation-small (Form.Chk p q) = lit< tt
 
-kind-small : (form : Form) → sourceKind form < 256
+kind-small : (form : Form) → sourceKind form < byteRadix
 kind-small (Form.Two op p q) = lit< tt
 kind-small (Form.Address op (Register.Data p) q) = lit< tt
 kind-small (Form.Address op (Register.Address p) q) = lit< tt
@@ -172,7 +173,7 @@ kind-small (Form.Bit op (Count.Small k) q) = lit< tt
 kind-small (Form.Bit op (Count.Data k) q) = lit< tt
 kind-small (Form.Chk p q) = lit< tt
 
-size-small : (size : Size) → sizeNumber size < 256
+size-small : (size : Size) → sizeNumber size < byteRadix
 size-small Byte = lit< tt
 size-small Word = lit< tt
 size-small Long = lit< tt
@@ -181,8 +182,8 @@ size-small Long = lit< tt
 
 -- the operands' numbers are bytes: every step of the code has them so
 pub record Bytes (k : Step) : Type 0 where
-  pub source : sourceNumber (k .form) < 256
-  pub destination : destinationNumber (k .form) < 256
+  pub source : sourceNumber (k .form) < byteRadix
+  pub destination : destinationNumber (k .form) < byteRadix
 
 pub word-names : (k : Step) → Bytes k → stepOf (stepWord k) ≡ k
 unfolding stepWord
@@ -211,8 +212,8 @@ map-names : (l : List Step) → AllBytes l → map stepOf (map stepWord l) ≡ l
 map-names [] h = refl
 map-names (k ∷ ks) h = rw (word-names k (h .0), map-names ks (h .1))
 
-pub words-name : (l : List Step) → AllBytes l → length l ≤ 256 → firstOf (map stepWord l) ≡ l
-words-name l h few = let all : length (map stepWord l) ≤ 256 = rw (length-map l stepWord) few in rw (take-all 256 (map stepWord l) all) (map-names l h)
+pub words-name : (l : List Step) → AllBytes l → length l ≤ arraySlots → firstOf (map stepWord l) ≡ l
+words-name l h few = let all : length (map stepWord l) ≤ arraySlots = rw (length-map l stepWord) few in rw (take-all arraySlots (map stepWord l) all) (map-names l h)
 
 -- ---- lines
 
@@ -227,7 +228,7 @@ verb-found Verb.Halve = refl
 verb-found Verb.Down = refl
 verb-found Verb.Up = refl
 
-verb-small : (v : Verb) → verbNumber v < 256
+verb-small : (v : Verb) → verbNumber v < byteRadix
 verb-small Verb.Clear = lit< tt
 verb-small Verb.Copy = lit< tt
 verb-small Verb.Add = lit< tt
@@ -238,16 +239,16 @@ verb-small Verb.Halve = lit< tt
 verb-small Verb.Down = lit< tt
 verb-small Verb.Up = lit< tt
 
-low : (a b c : ℕ) → a < 256 → (a + b * 256 + c * 65536) / 1 % 256 ≡ a
+low : (a b c : ℕ) → a < byteRadix → (a + b * 256 + c * 65536) / 1 % 256 ≡ a
 low a b c h = omega arith
 
-middle : (a b c : ℕ) → a < 256 → b < 256 → (a + b * 256 + c * 65536) / 256 % 256 ≡ b
+middle : (a b c : ℕ) → a < byteRadix → b < byteRadix → (a + b * 256 + c * 65536) / 256 % 256 ≡ b
 middle a b c h i = omega arith
 
-high : (a b c : ℕ) → a < 256 → b < 256 → c < 256 → (a + b * 256 + c * 65536) / 65536 % 256 ≡ c
+high : (a b c : ℕ) → a < byteRadix → b < byteRadix → c < byteRadix → (a + b * 256 + c * 65536) / 65536 % 256 ≡ c
 high a b c h i j = omega arith
 
-pub line-names : (l : Line) → l .a < 256 → l .b < 256 → lineOf (lineWord l) ≡ l
+pub line-names : (l : Line) → l .a < byteRadix → l .b < byteRadix → lineOf (lineWord l) ≡ l
 unfolding lineWord
 line-names l h k =
     let v = verb-small (l .verb) in

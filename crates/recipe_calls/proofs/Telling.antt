@@ -1,5 +1,5 @@
 -- Laws of what is told of a run and of a translation. Assumes nothing.
---     end-told   the three words of an end, one by one
+--     end-told   the three numbers of an end, one by one
 --     fits, short   a translation into a row that has room for it, and into one that has not
 use Prim.Native.Nat.{ℕ, _≤_, _<_}
 use mathlib.Core.Path.{_≡_, refl}
@@ -8,13 +8,14 @@ use borrow.Author.Tests.{le-leb, lt-leb}
 use lib.ListN.{length, getD, take}
 use Rattle.step.specs.declared.runs.End.{End}
 use Rattle.step.specs.declared.runs.End.the-variants.{Finished, Budget, Trapped, Refused}
+use Rattle.step.specs.Run.{endNumbers}
 use Rattle.recipes.specs.declared.types.Refusal.the-variants.{NoSpace}
 use Rattle.recipes.specs.declared.types.Listing.{Listing}
 use Rattle.recipes.specs.Recipe.{numberOf}
 use Rattle.recipe_calls.specs.Words.{stepWord, saidOf}
-use Rattle.recipe_calls.specs.Calls.{RowLeft, rowLeft, over, fitted, endWords}
+use Rattle.recipe_calls.specs.Calls.{RowLeft, rowLeft, over, fitted}
 
-pub end-told : (e : End) (rest : List ℕ) → getD (endWords e) 0 0 ∷ getD (endWords e) 1 0 ∷ getD (endWords e) 2 0 ∷ rest ≡ endWords e ++ rest
+pub end-told : (e : End) (rest : List ℕ) → getD (endNumbers e) 0 0 ∷ getD (endNumbers e) 1 0 ∷ getD (endNumbers e) 2 0 ∷ rest ≡ endNumbers e ++ rest
 end-told Finished rest = refl
 end-told Budget rest = refl
 end-told (Trapped trap place) rest = refl

@@ -6,11 +6,9 @@ use lib.Dec.{leb}
 use lib.ListN.{length, take, drop}
 use Rattle.alu.specs.Bits.{digit}
 use Rattle.step.specs.declared.registers.State.{State}
-use Rattle.step.specs.declared.runs.End.{End}
-use Rattle.step.specs.declared.runs.End.the-variants.{Finished, Budget, Trapped, Refused}
 use Rattle.step.specs.declared.runs.Ran.{Ran}
-use Rattle.step.specs.Perform.{performOf, numberOf as faultNumber, classOf}
-use Rattle.step.specs.Run.{runOf}
+use Rattle.step.specs.Perform.{performOf}
+use Rattle.step.specs.Run.{runOf, endNumbers}
 use Rattle.recipes.specs.declared.types.Recipe.{Recipe}
 use Rattle.recipes.specs.declared.types.Refusal.the-variants.{NoSpace}
 use Rattle.recipes.specs.declared.types.Reading.{Reading}
@@ -45,7 +43,7 @@ rowLeft row told = record { row = row; told = told }
 abbrev pub stateLeft : (d a : List ℕ) → (flags : ℕ) → (told : List ℕ) → StateLeft
 stateLeft d a flags told = record { d = d; a = a; flags = flags; told = told }
 
--- ---- recipe_read: the 32 lines; refusal number, text line, width, number of lines
+-- ---- recipe_read: the lines, `linesMax` of them; refusal number, text line, width, number of lines
 
 abbrev pub readTold : Reading → RowLeft
 readTold r = rowLeft (map lineWord (r .recipe .lines)) (numberOf (r .refusal) ∷ r .line ∷ r .recipe .width ∷ r .recipe .count ∷ [])
@@ -62,7 +60,7 @@ recipeOf width count lines = record { width = width; count = count; lines = map 
 abbrev pub over : (new old : List ℕ) → List ℕ
 over new old = new ++ drop (length new) old
 
--- The translator has 256 slots, which are enough; then 9 where the row is too short. A refusal has no steps, and leaves the row.
+-- The translator has an array, whose slots are enough; then 9 where the row is too short. A refusal has no steps, and leaves the row.
 abbrev pub fitted : (lines listing : List ℕ) → Listing → RowLeft
 fitted lines listing t =
     cond (leb (t .count) (length listing))
@@ -72,20 +70,13 @@ fitted lines listing t =
 abbrev pub translateWords : (width count : ℕ) → (lines listing : List ℕ) → RowLeft
 translateWords width count lines listing = fitted lines listing (translateOf (recipeOf width count lines) blanks)
 
--- ---- listing_run: the registers and flags; the end, its class or number, its place, next place, steps, clocks
-
--- 0 Finished, 1 Budget, 2 Trapped with its class and place, 3 Refused with its number and place
-abbrev pub endWords : End → List ℕ
-endWords Finished = 0 ∷ 0 ∷ 0 ∷ []
-endWords Budget = 1 ∷ 0 ∷ 0 ∷ []
-endWords (Trapped trap place) = 2 ∷ classOf trap ∷ place ∷ []
-endWords (Refused fault place) = 3 ∷ faultNumber fault ∷ place ∷ []
+-- ---- listing_run: the registers and flags; the end by its numbers (`endNumbers` of the crate step), next place, steps, clocks
 
 abbrev pub stateOf : (d a : List ℕ) → (flags : ℕ) → State
 stateOf d a flags = record { d = d; a = a; flags = flagsOf flags }
 
 abbrev pub ranTold : Ran → StateLeft
-ranTold r = stateLeft (r .state .d) (r .state .a) (ccrOf (r .state .flags)) (endWords (r .end) ++ (r .next ∷ r .steps ∷ r .clocks ∷ []))
+ranTold r = stateLeft (r .state .d) (r .state .a) (ccrOf (r .state .flags)) (endNumbers (r .end) ++ (r .next ∷ r .steps ∷ r .clocks ∷ []))
 
 abbrev pub runWords : (listing d a : List ℕ) → (flags start budget : ℕ) → StateLeft
 runWords listing d a flags start budget = ranTold (runOf performOf (firstOf listing) (stateOf d a flags) start budget)

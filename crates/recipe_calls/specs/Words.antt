@@ -25,6 +25,7 @@ use Rattle.step.specs.declared.steps.Count.the-variants as Count
 use Rattle.step.specs.declared.steps.Form.{Form}
 use Rattle.step.specs.declared.steps.Form.the-variants as Form
 use Rattle.step.specs.declared.steps.Step.{Step}
+use Rattle.step.specs.Run.{arraySlots}
 use Rattle.recipes.specs.declared.types.Verb.{Verb}
 use Rattle.recipes.specs.declared.types.Verb.the-variants as Verb
 use Rattle.recipes.specs.declared.types.Line.{Line}
@@ -35,9 +36,13 @@ use Rattle.recipe_calls.specs.declared.words.Made.the-variants.{Is, NoFo
 use Rattle.recipe_calls.specs.declared.words.Named.{Named}
 use Rattle.recipe_calls.specs.declared.words.Named.the-variants as Named
 
+-- a byte holds a number below this
+abbrev pub byteRadix : ℕ
+byteRadix = 2 ^ 8
+
 -- byte i of a word, the lowest is 0
 abbrev pub byteOf : (i word : ℕ) → ℕ
-byteOf i word = word / 256 ^ i % 256
+byteOf i word = word / byteRadix ^ i % byteRadix
 
 -- ---- a step: byte 0 is the operation, 1 the size (0 byte, 1 word, 2 long), 2 the source's kind (0 none, 1 a small number, 2 a data register, 3 an
 -- address register), 3 the source's number, 4 the destination's register number. The bytes above do not count, nor byte 3 where the kind is 0
@@ -93,9 +98,9 @@ named size NoForm = noStep
 unfoldable pub stepOf : (word : ℕ) → Step
 stepOf word = named (byteOf 1 word) (madeOf (getD operations (byteOf 0 word) Unknown) (byteOf 2 word) (byteOf 3 word) (byteOf 4 word))
 
--- the steps of a listing in words: its first 256
+-- the steps of a listing in words: as many as an array holds
 abbrev pub firstOf : List ℕ → List Step
-firstOf listing = map stepOf (take 256 listing)
+firstOf listing = map stepOf (take arraySlots listing)
 
 -- ---- the word of a step (`word-names` of proofs/Round: it names that step)
 
@@ -199,8 +204,8 @@ destinationNumber (Form.Chk p q) = q .0
 
 unfoldable pub stepWord : Step → ℕ
 stepWord k =
-    operationNumber (k .form) + sizeNumber (k .size) * 256 ^ 1 + sourceKind (k .form) * 256 ^ 2 + sourceNumber (k .form) * 256 ^ 3
-    + destinationNumber (k .form) * 256 ^ 4
+    operationNumber (k .form) + sizeNumber (k .size) * byteRadix ^ 1 + sourceKind (k .form) * byteRadix ^ 2 + sourceNumber (k .form) * byteRadix ^ 3
+    + destinationNumber (k .form) * byteRadix ^ 4
 
 -- ---- a line: byte 0 is the verb, 1 and 2 are a and b. The byte above does not count
 
@@ -230,7 +235,7 @@ unfoldable pub lineOf : (word : ℕ) → Line
 lineOf word = lineNamed (getD verbs (byteOf 0 word) Named.NoVerb) (byteOf 1 word) (byteOf 2 word)
 
 unfoldable pub lineWord : Line → ℕ
-lineWord l = verbNumber (l .verb) + l .a * 256 ^ 1 + l .b * 256 ^ 2
+lineWord l = verbNumber (l .verb) + l .a * byteRadix ^ 1 + l .b * byteRadix ^ 2
 
 abbrev pub namesVerb : (word : ℕ) → Bool
 namesVerb word = ltb (byteOf 0 word) 9

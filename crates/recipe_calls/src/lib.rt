@@ -8,10 +8,11 @@ mod words;
 
 ghost use mathlib.Core.Path.{_≡_};
 ghost use lib.ListN.{length};
+ghost use Rattle.step.specs.Run.{endNumbers};
 ghost use Rattle.recipes.specs.Text.{written, writing};
 ghost use Rattle.recipes.specs.Printer.{listingText, answerOf};
 ghost use Rattle.recipe_calls.specs.Words.{firstOf};
-ghost use Rattle.recipe_calls.specs.Calls.{rowLeft, stateLeft, readWords, translateWords, endWords, runWords, promisedOf, ccrAfter, recipeRunWords};
+ghost use Rattle.recipe_calls.specs.Calls.{rowLeft, stateLeft, readWords, translateWords, runWords, promisedOf, ccrAfter, recipeRunWords};
 use calls::ccr;
 use calls::flags_of;
 use recipes::printer::answer;
@@ -20,6 +21,7 @@ use recipes::reader::read;
 use recipes::runner::run_text;
 use recipes::translator::translate_array;
 use recipes::types::Codes;
+use recipes::types::LINES_MAX;
 use recipes::types::Recipe;
 use recipes::types::Refusal;
 use recipes::types::number;
@@ -45,8 +47,8 @@ fn long(x: u32) -> u64
     x as u64
 }
 
-// Reads a recipe text. `lines` gets its 32 lines, `told` the refusal number, its text line, the width and the number of lines.
-pub fn recipe_read(text: &[u8], lines: &mut [u32; 32], told: &mut [u64; 4])
+// Reads a recipe text. `lines` gets its lines, `told` the refusal number, its text line, the width and the number of lines.
+pub fn recipe_read(text: &[u8], lines: &mut [u32; LINES_MAX], told: &mut [u64; 4])
     ensures { λ _. ⌜ rowLeft (now (lines .exit)) (now (told .exit)) ≡ readWords (now (text .entry)) ⌝ }
 {
     let reading = read(text);
@@ -66,7 +68,7 @@ pub fn recipe_read(text: &[u8], lines: &mut [u32; 32], told: &mut [u64; 4])
 pub fn recipe_translate(
     width: u8,
     count: usize,
-    lines: &[u32; 32],
+    lines: &[u32; LINES_MAX],
     listing: &mut [u64],
     told: &mut [u64; 3],
 )
@@ -92,9 +94,9 @@ pub fn recipe_translate(
     ];
 }
 
-// How a run ends, its trap's class or its refusal's number, and the place of either.
-fn end_words(end: End) -> [u64; 3]
-    ensures { λ r. ⌜ r ≡ endWords end ⌝ }
+// Which of the four ends it is, its trap's class or its refusal's number, and the place of either.
+fn end_numbers(end: End) -> [u64; 3]
+    ensures { λ r. ⌜ r ≡ endNumbers end ⌝ }
 {
     match end {
         End::Finished => [0, 0, 0],
@@ -104,7 +106,7 @@ fn end_words(end: End) -> [u64; 3]
     }
 }
 
-// Runs the first 256 steps of a listing from a place, with a budget. `told` gets the end, the trap's class or the refusal's
+// Runs the first `SLOTS` steps of a listing from a place, with a budget. `told` gets the end, the trap's class or the refusal's
 // number, the place of either, the next place, the steps done and the sum of their figures.
 pub fn listing_run(
     listing: &[u64],
@@ -126,7 +128,7 @@ pub fn listing_run(
     };
     let ran = run_array(steps_of(listing), listing.len(), before, start, budget);
     let ended = ran.end;
-    let end = end_words(ended);
+    let end = end_numbers(ended);
     let after = ran.state;
     let after_d = after.d;
     let after_a = after.a;
@@ -144,7 +146,7 @@ pub fn listing_run(
     ];
 }
 
-// Prints the first 256 steps of a listing, as the program `recipe` does, and answers how many bytes it wrote.
+// Prints the first `SLOTS` steps of a listing, as the program `recipe` does, and answers how many bytes it wrote.
 pub fn listing_print(width: u8, listing: &[u64], out: &mut [u8]) -> usize
     ensures { λ r. ⌜ written (now (out .exit)) r ≡ writing (now (out .entry)) (listingText width (firstOf (now (listing .entry)))) ⌝ }
 {

@@ -11,8 +11,10 @@ use super::words::names_verb;
 use super::words::no_step;
 use super::words::step_of;
 use super::words::step_word;
+use recipes::types::LINES_MAX;
 use recipes::types::Line;
 use recipes::types::Verb;
+use step::runs::SLOTS;
 use step::steps::Step;
 
 fn lesser(a: usize, b: usize) -> usize
@@ -21,13 +23,13 @@ fn lesser(a: usize, b: usize) -> usize
     if a < b { a } else { b }
 }
 
-// The steps that the first 256 words of a listing name; behind them, steps that are refused.
-pub(crate) fn steps_of(listing: &[u64]) -> [Step; 256]
+// The steps that the first `SLOTS` words of a listing name; behind them, steps that are refused.
+pub(crate) fn steps_of(listing: &[u64]) -> [Step; SLOTS]
     ensures { λ r. ⌜ take (length (now (listing .entry))) r ≡ firstOf (now (listing .entry)) ⌝ }
 {
     let none = no_step();
-    let mut steps = [none; 256];
-    let count = lesser(listing.len(), 256);
+    let mut steps = [none; SLOTS];
+    let count = lesser(listing.len(), SLOTS);
     let mut i = 0;
     while i < count {
         steps[i] = step_of(listing[i]);
@@ -37,11 +39,11 @@ pub(crate) fn steps_of(listing: &[u64]) -> [Step; 256]
 }
 
 // The words of the first `count` steps go to the front of a listing.
-pub(crate) fn put_steps(steps: [Step; 256], count: usize, listing: &mut [u64])
+pub(crate) fn put_steps(steps: [Step; SLOTS], count: usize, listing: &mut [u64])
     requires { ⌜ count ≤ length (now listing) ⌝ }
     ensures { λ _. ⌜ now (listing .exit) ≡ over (map stepWord (take count steps)) (now (listing .entry)) ⌝ }
 {
-    let many = lesser(count, 256);
+    let many = lesser(count, SLOTS);
     let mut i = 0;
     while i < many {
         listing[i] = step_word(steps[i]);
@@ -49,7 +51,7 @@ pub(crate) fn put_steps(steps: [Step; 256], count: usize, listing: &mut [u64])
     }
 }
 
-pub(crate) fn lines_of(words: [u32; 32]) -> [Line; 32]
+pub(crate) fn lines_of(words: [u32; LINES_MAX]) -> [Line; LINES_MAX]
     ensures { λ r. ⌜ r ≡ map lineOf words ⌝ }
 {
     let none = Line {
@@ -57,21 +59,21 @@ pub(crate) fn lines_of(words: [u32; 32]) -> [Line; 32]
         a: 0,
         b: 0,
     };
-    let mut lines = [none; 32];
+    let mut lines = [none; LINES_MAX];
     let mut i = 0;
-    while i < 32 {
+    while i < LINES_MAX {
         lines[i] = line_of(words[i]);
         i += 1;
     }
     lines
 }
 
-pub(crate) fn line_words(lines: [Line; 32]) -> [u32; 32]
+pub(crate) fn line_words(lines: [Line; LINES_MAX]) -> [u32; LINES_MAX]
     ensures { λ r. ⌜ r ≡ map lineWord lines ⌝ }
 {
-    let mut words = [0u32; 32];
+    let mut words = [0u32; LINES_MAX];
     let mut i = 0;
-    while i < 32 {
+    while i < LINES_MAX {
         words[i] = line_word(lines[i]);
         i += 1;
     }
@@ -86,14 +88,14 @@ fn word_at(line: usize) -> usize
 }
 
 // The refusal number of a recipe in words: an unknown verb is 5, in the place of the 6 that its line would have.
-pub(crate) fn said(words: [u32; 32], number: u8, line: usize) -> u8
+pub(crate) fn said(words: [u32; LINES_MAX], number: u8, line: usize) -> u8
     ensures { λ r. ⌜ r ≡ saidOf words number line ⌝ }
 {
     if number != 6 {
         return number;
     }
     let at = word_at(line);
-    if 32 <= at {
+    if LINES_MAX <= at {
         return number;
     }
     if names_verb(words[at]) { number } else { 5 }

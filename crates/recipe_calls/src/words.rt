@@ -5,7 +5,7 @@ ghost use Prim.Native.Nat.{_<_, _^_, _%_};
 ghost use lib.ListN.{getD};
 ghost use Rattle.recipe_calls.specs.declared.words.Operation.the-variants as Operation;
 ghost use Rattle.recipe_calls.specs.declared.words.Named.the-variants as Named;
-ghost use Rattle.recipe_calls.specs.Words.{operations, only, either, madeOf, noStep, sizedOf, stepOf};
+ghost use Rattle.recipe_calls.specs.Words.{byteRadix, operations, only, either, madeOf, noStep, sizedOf, stepOf};
 ghost use Rattle.recipe_calls.specs.Words.{twoNumber, addressNumber, quickNumber, oneNumber, shiftNumber, bitNumber, sizeNumber, operationNumber};
 ghost use Rattle.recipe_calls.specs.Words.{registerKind, registerNumber, countKind, countNumber, sourceKind, sourceNumber, destinationNumber, stepWord};
 ghost use Rattle.recipe_calls.specs.Words.{verbs, verbNumber, namesVerb, lineOf, lineWord};
@@ -191,7 +191,7 @@ fn sized(size: u8, form: Form) -> Step
 }
 
 fn byte(word: u64) -> u8
-    ensures { λ r. ⌜ r ≡ word % 256 ⌝ }
+    ensures { λ r. ⌜ r ≡ word % byteRadix ⌝ }
 {
     (word % 0x100) as u8
 }

@@ -4,7 +4,7 @@
 //   middle 4 | D0..D7 there 8 each | flags there 2 | flags promised there 2
 //
 // `tools/recipe-vectors` makes vectors. Flags are X 16, N 8, Z 4, V 2, C 1.
-ghost use Prim.Native.Nat.{_+_, _<_, _≤_};
+ghost use Prim.Native.Nat.{_+_, _<_, _≤_, _^_};
 use alu::types::Flags;
 use step::registers::State;
 
@@ -65,14 +65,14 @@ fn digit(b: u8) -> u32
 
 fn two(head: &[u8; 323], at: usize) -> u32
     requires { ⌜ at + 2 ≤ 323 ⌝ }
-    ensures { λ r. ⌜ r < 256 ⌝ }
+    ensures { λ r. ⌜ r < 2 ^ 8 ⌝ }
 {
     digit(head[at]) * 16 + digit(head[at + 1])
 }
 
 fn four(head: &[u8; 323], at: usize) -> u32
     requires { ⌜ at + 4 ≤ 323 ⌝ }
-    ensures { λ r. ⌜ r < 65536 ⌝ }
+    ensures { λ r. ⌜ r < 2 ^ 16 ⌝ }
 {
     two(head, at) * 0x100 + two(head, at + 2)
 }

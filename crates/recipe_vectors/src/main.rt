@@ -14,6 +14,7 @@ use header::read_header;
 use header::text_length;
 use libc::STDIN_FILENO;
 use libc::STDOUT_FILENO;
+use recipes::types::TEXT_MAX;
 use replay::Replayed;
 use replay::Slip;
 use replay::is_slip;
@@ -138,7 +139,7 @@ fn all_vectors() -> Tally {
     let mut turns: u32 = 0xffff_ffff;
     while turns > 0 {
         let mut head = [0u8; 323];
-        let mut text = [0u8; 1024];
+        let mut text = [0u8; TEXT_MAX];
         let input = next(&mut head, &mut text);
         let came = input.came;
         match came {

@@ -11,6 +11,7 @@ use recipes::types::RecipeRun;
 use recipes::types::number;
 use step::runs::End;
 use step::runs::Ran;
+use step::runs::SLOTS;
 use step::runs::run_array;
 use step::steps::Step;
 
@@ -71,7 +72,7 @@ fn not_begun(vector: Vector) -> Ran {
 }
 
 // A run that is continued from where it halted: steps and clocks add.
-fn continued(listing: [Step; 256], count: u32, ran: Ran, budget: u32) -> Ran {
+fn continued(listing: [Step; SLOTS], count: u32, ran: Ran, budget: u32) -> Ran {
     let halted = ran.state;
     let more = run_array(listing, count as usize, halted, ran.next, budget);
     let end = more.end;
@@ -181,7 +182,7 @@ fn judge(vector: Vector, ran: Ran) -> Slip {
 }
 
 // Two runs: one to the place, and from there one to the end.
-fn halted_at(vector: Vector, listing: [Step; 256], place: u32) -> Slip
+fn halted_at(vector: Vector, listing: [Step; SLOTS], place: u32) -> Slip
     requires { ⌜ place ≤ vector .steps ⌝ }
 {
     let count = vector.steps;
@@ -191,7 +192,7 @@ fn halted_at(vector: Vector, listing: [Step; 256], place: u32) -> Slip
 }
 
 // The start and the end are places too.
-fn halted_at_each(vector: Vector, listing: [Step; 256]) -> Replayed {
+fn halted_at_each(vector: Vector, listing: [Step; SLOTS]) -> Replayed {
     let count = vector.steps;
     let mut runs: u64 = 0;
     for place in 0..=count {
@@ -209,7 +210,7 @@ fn halted_at_each(vector: Vector, listing: [Step; 256]) -> Replayed {
 }
 
 // Halted after every step: a run of no step, then runs of one.
-fn step_by_step(vector: Vector, listing: [Step; 256]) -> Replayed {
+fn step_by_step(vector: Vector, listing: [Step; SLOTS]) -> Replayed {
     let count = vector.steps;
     let mut runs: u64 = 1;
     let mut ran = continued(listing, count, not_begun(vector), 0);
@@ -238,7 +239,7 @@ fn then(first: Replayed, second: Replayed) -> Replayed {
     }
 }
 
-fn halted_everywhere(vector: Vector, listing: [Step; 256]) -> Replayed {
+fn halted_everywhere(vector: Vector, listing: [Step; SLOTS]) -> Replayed {
     let first = halted_at_each(vector, listing);
     let slip = first.slip;
     if is_slip(slip) {

@@ -2,13 +2,13 @@
 --     checked-names   a line that is read past 6 and 7 names numbers, and copies none onto itself
 --     checked-same, checked-slip   it is read as it stands, and a slip has a number
 --     names-checked   and one that does so passes
---     width-is        a width is at least 1 and at most 4
+--     width-all       what is so of 1, 2 and 4 is so of every width; width-is: a width is at least 1 and at most 4
 --     Good            a recipe that passes all tests
 --     tests-agree     two answers that go through the same tests agree, if they agree where a test refuses, and where a recipe is good
 use Prim.Native.Nat.{ℕ, suc, _/_, _≤_, _<_}
 use mathlib.Core.Bool.{Bool, true, false, cond, _||_, _&&_, false≢true}
 use mathlib.Core.List.{List, [], _∷_}
-use mathlib.Core.Path.{_≡_, refl, sym, ap, _∙_}
+use mathlib.Core.Path.{_≡_, refl, sym, ap, _∙_, subst⁻¹}
 use native.Mathlib.Omega.{arith}
 use borrow.Author.Tests.{leb-true, leb-false, lt-leb, eqb-true, eqb-false, ne-eqb}
 use lib.Dec.{eqb, leb}
@@ -20,7 +20,7 @@ use Rattle.recipes.specs.declared.types.Refusal.{Refusal}
 use Rattle.recipes.specs.declared.types.Refusal.the-variants.{NoSuchNumber, OntoItself, TooManyLines, WidthLine}
 use Rattle.recipes.specs.declared.reader.LineRead.{LineRead}
 use Rattle.recipes.specs.declared.reader.LineRead.the-variants.{Read, Slip}
-use Rattle.recipes.specs.Recipe.{isNothing, isCopy, target, isWidth, recipeLines, lineChecked, Names, Accepted}
+use Rattle.recipes.specs.Recipe.{linesMax, isNothing, isCopy, target, isWidth, recipeLines, lineChecked, Names, Accepted}
 use Rattle.recipes.specs.Listing.{unlessSlip, linesPass, tested}
 
 -- ---- lines
@@ -96,22 +96,25 @@ names-checked n l h = rw (lt-leb n (l .a) (h .source), lt-leb n (target l) (h .g
 
 -- ---- recipes
 
-pub width-is : (w : ℕ) → isWidth w ≡ true → (0 < w) × (w ≤ 4)
-width-is w e = go (eqb w 1) refl (eqb w 2) refl (eqb w 4) refl e
+pub width-all : (P : ℕ → Type 0) → P 1 → P 2 → P 4 → (w : ℕ) → isWidth w ≡ true → P w
+width-all P one two four w e = go (eqb w 1) refl (eqb w 2) refl (eqb w 4) refl e
   where
-    at : (k : ℕ) → 0 < k → k ≤ 4 → eqb w k ≡ true → (0 < w) × (w ≤ 4)
-    at k l m h = let is = eqb-true w k h in (omega arith, omega arith)
+    at : (k : ℕ) → P k → eqb w k ≡ true → P w
+    at k h is = subst⁻¹ P (eqb-true w k is) h
 
-    go : (s : Bool) → eqb w 1 ≡ s → (t : Bool) → eqb w 2 ≡ t → (u : Bool) → eqb w 4 ≡ u → (s || t) || u ≡ true → (0 < w) × (w ≤ 4)
-    go true h t i u j e = at 1 (omega arith) (omega arith) h
-    go false h true i u j e = at 2 (omega arith) (omega arith) i
-    go false h false i true j e = at 4 (omega arith) (omega arith) j
+    go : (s : Bool) → eqb w 1 ≡ s → (t : Bool) → eqb w 2 ≡ t → (u : Bool) → eqb w 4 ≡ u → (s || t) || u ≡ true → P w
+    go true h t i u j e = at 1 one h
+    go false h true i u j e = at 2 two i
+    go false h false i true j e = at 4 four j
     go false h false i false j e = absurd (false≢true e)
+
+pub width-is : (w : ℕ) → isWidth w ≡ true → (0 < w) × (w ≤ 4)
+width-is = width-all (λ w. (0 < w) × (w ≤ 4)) (omega arith, omega arith) (omega arith, omega arith) (omega arith, omega arith)
 
 -- a recipe that passes the tests
 pub record Good (r : Recipe) : Type 0 where
   pub width : isWidth (r .width) ≡ true
-  pub few : r .count ≤ 32
+  pub few : r .count ≤ linesMax
   pub lines : Accepted (r .width) (recipeLines r)
 
 module _ {R S : Type 0} (P : R → S → Type 0) (refuse : Refusal → ℕ → R) (reject : Refusal → ℕ → S)
@@ -131,13 +134,13 @@ module _ {R S : Type 0} (P : R → S → Type 0) (refuse : Refusal → ℕ → R
     pub tests-agree : (r : Recipe) (go : R) (gone : S) → (Good r → P go gone) → P (tested refuse r go) (tested reject r gone)
     tests-agree r go gone h = width (isWidth (r .width)) refl
       where
-        few : (t : Bool) → leb (r .count) 32 ≡ t → isWidth (r .width) ≡ true
+        few : (t : Bool) → leb (r .count) linesMax ≡ t → isWidth (r .width) ≡ true
             → P (cond t (linesPass refuse (8 / r .width) 2 (recipeLines r) go) (refuse TooManyLines 0)) (cond t (linesPass reject (8 / r .width) 2 (recipeLines r) gone) (reject TooManyLines 0))
-        few true e w = lines-agree (r .width) 2 (recipeLines r) go gone (λ a. h (record { width = w; few = leb-true (r .count) 32 e; lines = a }))
+        few true e w = lines-agree (r .width) 2 (recipeLines r) go gone (λ a. h (record { width = w; few = leb-true (r .count) linesMax e; lines = a }))
         few false e w = alike TooManyLines 0 refl
 
         width : (t : Bool) → isWidth (r .width) ≡ t
-            → P (cond t (cond (leb (r .count) 32) (linesPass refuse (8 / r .width) 2 (recipeLines r) go) (refuse TooManyLines 0)) (refuse WidthLine 1))
-            (cond t (cond (leb (r .count) 32) (linesPass reject (8 / r .width) 2 (recipeLines r) gone) (reject TooManyLines 0)) (reject WidthLine 1))
-        width true e = few (leb (r .count) 32) refl e
+            → P (cond t (cond (leb (r .count) linesMax) (linesPass refuse (8 / r .width) 2 (recipeLines r) go) (refuse TooManyLines 0)) (refuse WidthLine 1))
+            (cond t (cond (leb (r .count) linesMax) (linesPass reject (8 / r .width) 2 (recipeLines r) gone) (reject TooManyLines 0)) (reject WidthLine 1))
+        width true e = few (leb (r .count) linesMax) refl e
         width false e = alike WidthLine 1 refl

@@ -1,5 +1,5 @@
 -- The reader and the translator agree: a recipe that was read is translated, wherever there is room. Assumes nothing.
---     read-sound        an accepted text's recipe has a width, at most 32 lines, and lines that name numbers
+--     read-sound        an accepted text's recipe has a width, at most `linesMax` lines, and lines that name numbers
 --     read-translates   so its translation is its listing
 use Prim.Native.Nat.{ℕ, suc, _+_, _-_, _/_, _≤_, _<_}
 use mathlib.Core.Bool.{Bool, true, false, cond, false≢true}
@@ -26,7 +26,7 @@ use Rattle.recipes.specs.declared.reader.Digit.the-variants.{Is, Bad}
 use Rattle.recipes.specs.declared.reader.VerbRead.{VerbRead}
 use Rattle.recipes.specs.declared.reader.VerbRead.the-variants.{Known, Unknown}
 use Rattle.recipes.specs.Text.{ascii, sameBytes, before, after}
-use Rattle.recipes.specs.Recipe.{isNothing, takesTwo, isWidth, recipeLines, unused, lineChecked, Names, Accepted}
+use Rattle.recipes.specs.Recipe.{linesMax, isNothing, takesTwo, isWidth, recipeLines, unused, lineChecked, Names, Accepted}
 use Rattle.recipes.specs.Reader.{refusedAt, verbOf, digitOf, onlyDigit, withOne, withTwo, oneField, twoFields, fieldsOf, thenChecked, lineOf, orSlip, linesOf, widthDigit, widthLine, fromFirst, readOf}
 use Rattle.recipes.specs.Listing.{linesPass, tested, listingOf, stepsOf, over, listed, translateOf}
 use Rattle.recipes.proofs.Accepting.{Good, no-read, checked-names, checked-same, checked-slip, names-checked, tests-agree}
@@ -98,30 +98,30 @@ snoc-accepted : (w : ℕ) (ls : List Line) (l : Line) → Accepted w ls → Name
 snoc-accepted w [] l a h = (h, tt)
 snoc-accepted w (m ∷ ls) l a h = (a .0, snoc-accepted w ls l (a .1) h)
 
-lines-sound : (w : ℕ) (ls : List Line) (row : List ℕ) (more : List (List ℕ)) → isWidth w ≡ true → length ls ≤ 32 → Accepted w ls → Sound (linesOf w ls row more)
+lines-sound : (w : ℕ) (ls : List Line) (row : List ℕ) (more : List (List ℕ)) → isWidth w ≡ true → length ls ≤ linesMax → Accepted w ls → Sound (linesOf w ls row more)
 unfolding linesOf
 lines-sound w ls [] [] i h a =
-    λ e. record { width = i; few = h; lines = subst (Accepted w) (sym (take-append-seam ls (replicate (32 - length ls) unused))) a }
-lines-sound w ls (x ∷ xs) [] i h a = go (eqb (length ls) 32)
+    λ e. record { width = i; few = h; lines = subst (Accepted w) (sym (take-append-seam ls (replicate (linesMax - length ls) unused))) a }
+lines-sound w ls (x ∷ xs) [] i h a = go (eqb (length ls) linesMax)
   where
     go : (t : Bool) → Sound (cond t (refusedAt TooManyLines (length ls + 2)) (refusedAt Syntax (length ls + 2)))
     go true = refused-sound TooManyLines (length ls + 2) refl
     go false = refused-sound Syntax (length ls + 2) refl
 lines-sound w ls row (next ∷ more) i h a =
-    full (eqb (length ls) 32) refl (λ l k n. lines-sound w (ls ++ (l ∷ [])) next more i k (snoc-accepted w ls l a n))
+    full (eqb (length ls) linesMax) refl (λ l k n. lines-sound w (ls ++ (l ∷ [])) next more i k (snoc-accepted w ls l a n))
   where
-    by : (c : LineRead) → lineOf (8 / w) row ≡ c → HasNumber c → length ls < 32
-        → ((l : Line) → length (ls ++ (l ∷ [])) ≤ 32 → Names (8 / w) l → Sound (linesOf w (ls ++ (l ∷ [])) next more))
+    by : (c : LineRead) → lineOf (8 / w) row ≡ c → HasNumber c → length ls < linesMax
+        → ((l : Line) → length (ls ++ (l ∷ [])) ≤ linesMax → Names (8 / w) l → Sound (linesOf w (ls ++ (l ∷ [])) next more))
         → Sound (orSlip c (length ls + 2) (λ l. linesOf w (ls ++ (l ∷ [])) next more))
     by (Slip k) e s lt go = refused-sound k (length ls + 2) s
     by (Read l) e s lt go = go l (rw length-append (omega arith)) (line-names (8 / w) row l e)
 
-    full : (t : Bool) → eqb (length ls) 32 ≡ t → ((l : Line) → length (ls ++ (l ∷ [])) ≤ 32 → Names (8 / w) l → Sound (linesOf w (ls ++ (l ∷ [])) next more))
+    full : (t : Bool) → eqb (length ls) linesMax ≡ t → ((l : Line) → length (ls ++ (l ∷ [])) ≤ linesMax → Names (8 / w) l → Sound (linesOf w (ls ++ (l ∷ [])) next more))
         → Sound (cond t (refusedAt TooManyLines (length ls + 2)) (orSlip (lineOf (8 / w) row) (length ls + 2) (λ l. linesOf w (ls ++ (l ∷ [])) next more)))
     full true e go = refused-sound TooManyLines (length ls + 2) refl
     full false e go =
-        let ne = eqb-false (length ls) 32 e in
-        by (lineOf (8 / w) row) refl (line-number (8 / w) row) (strictly (length ls) 32 h ne) go
+        let ne = eqb-false (length ls) linesMax e in
+        by (lineOf (8 / w) row) refl (line-number (8 / w) row) (strictly (length ls) linesMax h ne) go
       where
         strictly : (m n : ℕ) → m ≤ n → (m ≡ n → ⊥) → m < n
         strictly m n l ne = choose (decLe n m)
@@ -168,7 +168,7 @@ passes refuse w line (l ∷ ls) go a = rw (names-checked (8 / w) l (a .0)) (pass
 
 -- a good recipe passes all tests
 pub good-passes : {R : Type 0} (refuse : Refusal → ℕ → R) (r : Recipe) (go : R) → Good r → tested refuse r go ≡ go
-good-passes refuse r go g = rw (g .width, le-leb (r .count) 32 (g .few)) (passes refuse (r .width) 2 (recipeLines r) go (g .lines))
+good-passes refuse r go g = rw (g .width, le-leb (r .count) linesMax (g .few)) (passes refuse (r .width) 2 (recipeLines r) go (g .lines))
 
 pub good-translates : (r : Recipe) (slots : List Step) → Good r → stepsOf (r .width) (recipeLines r) ≤ length slots
     → translateOf r slots ≡ listed Nothing 0 (stepsOf (r .width) (recipeLines r)) (over (listingOf (r .width) (recipeLines r)) slots)

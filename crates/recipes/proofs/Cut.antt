@@ -1,6 +1,6 @@
 -- Document 01: the program "reads at most the first 1,024 bytes of standard input (a longer text meets its refusal within them)". Assumes nothing.
 --     read-refused   a text of 340 bytes or more is refused, and the refusal and its line are the same whatever follows
---     cut-reads      so the first 1,024 bytes of a text are read as the text is; cut-answers: and answered
+--     cut-reads      so the first `textMax` bytes of a text are read as the text is; cut-answers: and answered
 --     long-refused   and a longer text is refused
 use Prim.Native.Nat.{ℕ, suc, _+_, _*_, _/_, _≤_, _<_}
 use mathlib.Core.Bool.{Bool, true, false, cond, and-false}
@@ -26,9 +26,9 @@ use Rattle.recipes.specs.declared.reader.Digit.the-variants.{Is, Bad}
 use Rattle.recipes.specs.declared.reader.LineRead.{LineRead}
 use Rattle.recipes.specs.declared.reader.LineRead.the-variants.{Read, Slip}
 use Rattle.recipes.specs.Text.{ascii, sameBytes, before, after}
-use Rattle.recipes.specs.Recipe.{isNothing, takesTwo}
+use Rattle.recipes.specs.Recipe.{linesMax, isNothing, takesTwo}
 use Rattle.recipes.specs.Reader.{refusedAt, verbOf, digitOf, onlyDigit, withTwo, oneField, twoFields, fieldsOf, lineOf, linesOf, widthLine, fromFirst, readOf}
-use Rattle.recipes.specs.Printer.{readingPrinted, answerOf}
+use Rattle.recipes.specs.Printer.{textMax, readingPrinted, answerOf}
 use Rattle.recipes.proofs.Texts.{cond-same}
 use Rattle.recipes.proofs.Accepting.{no-read}
 use Rattle.recipes.proofs.Agreeing.{HasNumber, line-number}
@@ -155,20 +155,20 @@ later : {read rest : List ℕ → Reading} → ((s : List ℕ) → read s ≡ re
 later f r = met (r .kind) (r .line) (r .some) (λ s. f s ∙ r .same s)
 
 module _ (w : ℕ) (ls : List Line) where
-  -- behind 32 lines
-  many : (row : List ℕ) (more : List (List ℕ)) → length ls ≡ 32 → 0 < length row + behind more → linesOf w ls row more ≡ refusedAt TooManyLines (length ls + 2)
+  -- behind `linesMax` lines
+  many : (row : List ℕ) (more : List (List ℕ)) → length ls ≡ linesMax → 0 < length row + behind more → linesOf w ls row more ≡ refusedAt TooManyLines (length ls + 2)
   unfolding linesOf
   many [] [] e h = absurd (omega arith)
-  many (x ∷ row) [] e h = rw (eq-eqb (length ls) 32 e)
-  many row (next ∷ more) e h = rw (eq-eqb (length ls) 32 e)
+  many (x ∷ row) [] e h = rw (eq-eqb (length ls) linesMax e)
+  many row (next ∷ more) e h = rw (eq-eqb (length ls) linesMax e)
 
   -- a row of 10 bytes or more, with or without its byte 10
-  last : (row : List ℕ) (more : List (List ℕ)) → length ls < 32 → 10 ≤ length row → linesOf w ls row more ≡ refusedAt Syntax (length ls + 2)
+  last : (row : List ℕ) (more : List (List ℕ)) → length ls < linesMax → 10 ≤ length row → linesOf w ls row more ≡ refusedAt Syntax (length ls + 2)
   last row [] l h = lines-cut w ls row (omega arith) l
   last row (next ∷ more) l h = lines-next w ls row next more l ∙ rw (long-row (8 / w) row h)
 
 -- A line that is read has at most 9 bytes and its byte 10, and there are at most 32: 330 bytes meet a refusal.
-lines-refused : (w : ℕ) (ls : List Line) (row : List ℕ) (more : List (List ℕ)) → length ls ≤ 32 → 330 ≤ length row + behind more + 10 * length ls
+lines-refused : (w : ℕ) (ls : List Line) (row : List ℕ) (more : List (List ℕ)) → length ls ≤ linesMax → 330 ≤ length row + behind more + 10 * length ls
     → Refused (λ s. linesOf w ls (front row more s) (rest more s))
 lines-refused w ls row [] few h =
     let long : (s : List ℕ) → 10 ≤ length (row ++ before 10 s) = λ s. rw length-append (omega arith) in
@@ -180,7 +180,7 @@ lines-refused w ls row (next ∷ more) few h =
     (λ lt. by lt (lineOf (8 / w) row) refl (line-number (8 / w) row) (or-less 10 (length row)) (λ l i. lines-refused w (ls ++ (l ∷ [])) next more (rw length-append (omega arith)) (rw length-append (omega arith))))
     (eq-or-lt-of-le few)
   where
-    by : length ls < 32 → (c : LineRead) → lineOf (8 / w) row ≡ c → HasNumber c → (10 ≤ length row) ⊎ (length row < 10)
+    by : length ls < linesMax → (c : LineRead) → lineOf (8 / w) row ≡ c → HasNumber c → (10 ≤ length row) ⊎ (length row < 10)
         → ((l : Line) → length row < 10 → Refused (λ s. linesOf w (ls ++ (l ∷ [])) (front next more s) (rest more s)))
         → Refused (λ s. linesOf w ls row (front next more s ∷ rest more s))
     by lt (Slip k) e n d on = met k (length ls + 2) n (λ s. lines-next w ls row (front next more s) (rest more s) lt ∙ rw e)
@@ -208,22 +208,22 @@ unfolding readOf
 read-refused p h =
     later (λ s. ap₂ fromFirst (parts-on p s .0) (parts-on p s .1)) (first-refused (before 10 p) (after 10 p) (omega (arith, parts-size 10 p)))
 
--- the first 1,024 bytes of a text are read as the text is
-pub cut-reads : (text : List ℕ) → readOf (take 1024 text) ≡ readOf text
-cut-reads text = ⊎-elim (λ l. ap readOf (take-all 1024 text l)) more (or-less (length text) 1024)
+-- the first `textMax` bytes of a text are read as the text is
+pub cut-reads : (text : List ℕ) → readOf (take textMax text) ≡ readOf text
+cut-reads text = ⊎-elim (λ l. ap readOf (take-all textMax text l)) more (or-less (length text) textMax)
   where
-    more : 1024 < length text → readOf (take 1024 text) ≡ readOf text
+    more : textMax < length text → readOf (take textMax text) ≡ readOf text
     more l =
-        let r = read-refused (take 1024 text) (omega (arith, length-take 1024 text)) in
-        ap readOf (sym (append-nil (take 1024 text))) ∙ r .same [] ∙ sym (r .same (drop 1024 text)) ∙ ap readOf (take-append-drop 1024 text)
+        let r = read-refused (take textMax text) (omega (arith, length-take textMax text)) in
+        ap readOf (sym (append-nil (take textMax text))) ∙ r .same [] ∙ sym (r .same (drop textMax text)) ∙ ap readOf (take-append-drop textMax text)
 
 -- and a longer text is refused
-pub long-refused : (text : List ℕ) → 1024 < length text → isNothing (readOf text .refusal) ≡ false
+pub long-refused : (text : List ℕ) → textMax < length text → isNothing (readOf text .refusal) ≡ false
 long-refused text h =
     let r = read-refused text (omega arith) in
     rw (← append-nil text, r .same []) (r .some)
 
--- so the program, which reads no more than 1,024 bytes, prints what the whole text is answered with
-pub cut-answers : (text : List ℕ) → answerOf (take 1024 text) ≡ answerOf text
+-- so the program, which reads no more than `textMax` bytes, prints what the whole text is answered with
+pub cut-answers : (text : List ℕ) → answerOf (take textMax text) ≡ answerOf text
 unfolding answerOf
 cut-answers text = ap readingPrinted (cut-reads text)

@@ -4,7 +4,7 @@
 --     halted-behind      HaltedBehind: halted behind the steps of its first lines, the registers and flags are as those lines leave them
 --     one-by-one         CalledOneByOne: it holds for whoever calls the translator and the run one by one; from-text: and the reader before them
 --     called-whole, called-halted   the same in the words of the contracts of `translate` and `run`
---     steps-few          an accepted recipe has at most 256 steps
+--     steps-few          an accepted recipe has at most `stepsMax` steps
 --     meets-one          two runs that meet the rule and end alike are equal, once their flags are; `meets-x`: their X is; `meets-flags`: after add, sub and neg, all five
 --     ruled-registers    the rule's numbers determine the registers
 use mathlib.Core.Path.{_≡_, refl, sym, ap, ap₂, _∙_, subst, subst⁻¹}
@@ -37,11 +37,11 @@ use Rattle.recipes.specs.declared.types.Codes.{Codes}
 use Rattle.recipes.specs.declared.types.Codes.the-variants.{Known}
 use Rattle.recipes.specs.Recipe.{isNothing, isWidth, target, recipeLines, Names, Accepted}
 use Rattle.recipes.specs.Reader.{readOf}
-use Rattle.recipes.specs.Listing.{lineSteps, listingOf, stepsAt, stepsOf, over, translated, translateOf, clocksOf}
+use Rattle.recipes.specs.Listing.{stepsMax, lineSteps, listingOf, stepsAt, stepsOf, over, translated, translateOf, clocksOf}
 use Rattle.recipes.specs.Rule.{numbersOf, registersOf, codesOf, Account, saidBy, ruleOf, rulesOf}
 use Rattle.recipes.specs.Demand.{EightLongs, Holds, Ruled, Meets, Finishes, Demand3, HaltedBehind, CalledOneByOne, FromText}
 use Rattle.recipes.proofs.Steps.{line-length, listing-steps}
-use Rattle.recipes.proofs.Accepting.{Good, width-is}
+use Rattle.recipes.proofs.Accepting.{Good, width-all, width-is}
 use Rattle.recipes.proofs.Settling.{few-steps}
 use Rattle.recipes.proofs.Agreeing.{read-sound, good-translates, translated-good}
 use Rattle.recipes.proofs.Legal.{line-legal, listing-legal, figure-same}
@@ -166,7 +166,7 @@ halted-behind (suc n) pos ls h more s ok b bs there =
 
 -- ---- for the code
 
-pub steps-few : (r : Recipe) → Good r → stepsOf (r .width) (recipeLines r) ≤ 256
+pub steps-few : (r : Recipe) → Good r → stepsOf (r .width) (recipeLines r) ≤ stepsMax
 steps-few r g = few-steps r (width-is (r .width) (g .width) .1) (g .few)
 
 -- what was translated is the listing: its steps are the first `count` slots
@@ -222,21 +222,9 @@ module _ (r : Recipe) (slots left : List Step) (t : Translated) (made : translat
 
 -- ---- nothing is left open
 
-width-fills : (w : ℕ) → isWidth w ≡ true → 8 / w * w ≡ 8
-width-fills w e = go (eqb w 1) refl (eqb w 2) refl (eqb w 4) refl e
-  where
-    at : (k : ℕ) → 8 / k * k ≡ 8 → eqb w k ≡ true → 8 / w * w ≡ 8
-    at k h is = subst⁻¹ (λ (w : ℕ). 8 / w * w ≡ 8) (eqb-true w k is) h
-
-    go : (s : Bool) → eqb w 1 ≡ s → (t : Bool) → eqb w 2 ≡ t → (u : Bool) → eqb w 4 ≡ u → (s || t) || u ≡ true → 8 / w * w ≡ 8
-    go true h t i u j e = at 1 refl h
-    go false h true i u j e = at 2 refl i
-    go false h false i true j e = at 4 refl j
-    go false h false i false j e = absurd (false≢true e)
-
 -- the registers that the rule's numbers give are those of the state
 pub ruled-registers : (w : ℕ) → isWidth w ≡ true → (r : Account) (s t : State) → Ruled w r s t → registersOf w (r .numbers) ≡ t .d
-ruled-registers w e r s t h = ap (registersOf w) (sym (h .numbers)) ∙ registers-back w (t .d) (width-fills w e) (h .longs)
+ruled-registers w e r s t h = ap (registersOf w) (sym (h .numbers)) ∙ registers-back w (t .d) (width-all (λ w. 8 / w * w ≡ 8) refl refl refl w e) (h .longs)
 
 -- two runs that meet the rule and end alike differ in N, Z, V and C alone, and that only where the rule doesn't tell them
 pub meets-one : (w : ℕ) → isWidth w ≡ true → (ls : List Line) (s : State) (r q : Ran) → Meets w ls s r → Meets w ls s q → r .end ≡ q .end

@@ -2,8 +2,7 @@
 -- that stands behind the references that it was lent.
 --     determined       the functions that are lent nothing
 --     .. -determined   those that are lent a slice or a row of steps, by `OneExit` of the crate step: at exit the contract says one equation, of the
---                      whole answer, the result together with what stands behind the references. tools/contracts looks that none is left out
---     .. -parts        and that whole leaves out nothing
+--                      whole answer, the result together with all that stands behind the references. tools/contracts looks that none is left out
 -- Assumes nothing.
 use mathlib.Core.Path.{_≡_, refl, ap}
 use mathlib.Core.List.{List, [], _∷_}
@@ -43,31 +42,50 @@ use Rattle.recipes.proofs.runner.run_text as run-text
 pub determined : List Fixed
 determined = fixed number.Learnt (one-equation _) ∷ fixed translate-array.Learnt (one-equation _) ∷ fixed run-recipe.Learnt (one-equation _) ∷ []
 
-pub written-parts : (p p′ : List ℕ) (r r′ : ℕ) → written p r ≡ written p′ r′ → (p ≡ p′) × (r ≡ r′)
-written-parts p p′ r r′ e = (ap (λ (w : Written). w .bytes) e, ap (λ (w : Written). w .length) e)
+abbrev toldIn : Listing → Translated
+toldIn l = record { refusal = l .refusal; line = l .line; count = l .count }
 
-pub translated-parts : (t t′ : Translated) (s s′ : List Step) → translated t s ≡ translated t′ s′ → (t ≡ t′) × (s ≡ s′)
-translated-parts t t′ s s′ e =
-    let told : Listing → Translated = λ l. record { refusal = l .refusal; line = l .line; count = l .count } in (ap told e, ap (λ (l : Listing). l .steps) e)
+abbrev countIn : Written → ℕ
+countIn w = w .count
 
 module _ {M : Type 1} (𝓤 : URA M) (H : Heap 𝓤) (A : Atoms 𝓤) (mem : Memory → SProp 𝓤) (go : Routine → Fun 𝓤) where
-  pub read-determined : (κs : Lfts 1) (a : Args read.signature κs) → OneExit 𝓤 (λ r e. r) (read.clauses 𝓤 H A mem go κs a .ensures tt)
-  read-determined κs a = record { of = readOf (now (a .0)); is = λ r e. refl }
+  pub read-determined : (κs : Lfts 1) (a : Args read.signature κs) → OneExit 𝓤 read.ended κs a (λ r ws. r) (read.clauses 𝓤 H A mem go κs a .ensures tt)
+  read-determined κs a = record { of = readOf (now (a .0)); is = λ r ws. refl; all = λ r r′ ws ws′ e. (e, refl) }
 
-  pub translate-determined : (κs : Lfts 1) (a : Args translate.signature κs) → OneExit 𝓤 (λ r e. translated r (now (e .1 .0))) (translate.clauses 𝓤 H A mem go κs a .ensures tt)
-  translate-determined κs a = record { of = translateOf (a .0) (now (a .1 .0)); is = λ r e. refl }
+  pub translate-determined : (κs : Lfts 1) (a : Args translate.signature κs) → OneExit 𝓤 translate.ended κs a (λ r ws. translated r (ws .1 .0)) (translate.clauses 𝓤 H A mem go κs a .ensures tt)
+  translate-determined κs a = record {
+    of = translateOf (a .0) (now (a .1 .0));
+    is = λ r ws. refl;
+    all = λ r r′ ws ws′ e. (ap toldIn e, ap (λ (l : Listing). (tt, (l .steps, tt))) e);
+  }
 
-  pub print-determined : (κs : Lfts 1) (a : Args print.signature κs) → OneExit 𝓤 (λ r e. written (now (e .1 .1 .1 .0)) r) (print.clauses 𝓤 H A mem go κs a .ensures tt)
-  print-determined κs a = record { of = writing (now (a .1 .1 .1 .0)) (listingText (a .0) (take (a .1 .1 .0) (a .1 .0))); is = λ r e. refl }
+  pub print-determined : (κs : Lfts 1) (a : Args print.signature κs) → OneExit 𝓤 print.ended κs a (λ r ws. written (ws .1 .1 .1 .0) r) (print.clauses 𝓤 H A mem go κs a .ensures tt)
+  print-determined κs a = record {
+    of = writing (now (a .1 .1 .1 .0)) (listingText (a .0) (take (a .1 .1 .0) (a .1 .0)));
+    is = λ r ws. refl;
+    all = λ r r′ ws ws′ e. (ap countIn e, ap (λ (w : Written). (tt, (tt, (tt, (w .bytes, tt))))) e);
+  }
 
-  pub print-refusal-determined : (κs : Lfts 1) (a : Args print-refusal.signature κs) → OneExit 𝓤 (λ r e. written (now (e .1 .1 .0)) r) (print-refusal.clauses 𝓤 H A mem go κs a .ensures tt)
-  print-refusal-determined κs a = record { of = writing (now (a .1 .1 .0)) (refusalText (a .0) (a .1 .0)); is = λ r e. refl }
+  pub print-refusal-determined : (κs : Lfts 1) (a : Args print-refusal.signature κs) → OneExit 𝓤 print-refusal.ended κs a (λ r ws. written (ws .1 .1 .0) r) (print-refusal.clauses 𝓤 H A mem go κs a .ensures tt)
+  print-refusal-determined κs a = record {
+    of = writing (now (a .1 .1 .0)) (refusalText (a .0) (a .1 .0));
+    is = λ r ws. refl;
+    all = λ r r′ ws ws′ e. (ap countIn e, ap (λ (w : Written). (tt, (tt, (w .bytes, tt)))) e);
+  }
 
-  pub print-recipe-determined : (κs : Lfts 1) (a : Args print-recipe.signature κs) → OneExit 𝓤 (λ r e. written (now (e .1 .0)) r) (print-recipe.clauses 𝓤 H A mem go κs a .ensures tt)
-  print-recipe-determined κs a = record { of = writing (now (a .1 .0)) (printedOf (a .0)); is = λ r e. refl }
+  pub print-recipe-determined : (κs : Lfts 1) (a : Args print-recipe.signature κs) → OneExit 𝓤 print-recipe.ended κs a (λ r ws. written (ws .1 .0) r) (print-recipe.clauses 𝓤 H A mem go κs a .ensures tt)
+  print-recipe-determined κs a = record {
+    of = writing (now (a .1 .0)) (printedOf (a .0));
+    is = λ r ws. refl;
+    all = λ r r′ ws ws′ e. (ap countIn e, ap (λ (w : Written). (tt, (w .bytes, tt))) e);
+  }
 
-  pub answer-determined : (κs : Lfts 2) (a : Args answer.signature κs) → OneExit 𝓤 (λ r e. written (now (e .1 .0)) r) (answer.clauses 𝓤 H A mem go κs a .ensures tt)
-  answer-determined κs a = record { of = writing (now (a .1 .0)) (answerOf (now (a .0))); is = λ r e. refl }
+  pub answer-determined : (κs : Lfts 2) (a : Args answer.signature κs) → OneExit 𝓤 answer.ended κs a (λ r ws. written (ws .1 .0) r) (answer.clauses 𝓤 H A mem go κs a .ensures tt)
+  answer-determined κs a = record {
+    of = writing (now (a .1 .0)) (answerOf (now (a .0)));
+    is = λ r ws. refl;
+    all = λ r r′ ws ws′ e. (ap countIn e, ap (λ (w : Written). (tt, (w .bytes, tt))) e);
+  }
 
-  pub run-text-determined : (κs : Lfts 1) (a : Args run-text.signature κs) → OneExit 𝓤 (λ r e. r) (run-text.clauses 𝓤 H A mem go κs a .ensures tt)
-  run-text-determined κs a = record { of = textRunOf (now (a .0)) (a .1 .0); is = λ r e. refl }
+  pub run-text-determined : (κs : Lfts 1) (a : Args run-text.signature κs) → OneExit 𝓤 run-text.ended κs a (λ r ws. r) (run-text.clauses 𝓤 H A mem go κs a .ensures tt)
+  run-text-determined κs a = record { of = textRunOf (now (a .0)) (a .1 .0); is = λ r ws. refl; all = λ r r′ ws ws′ e. (e, refl) }

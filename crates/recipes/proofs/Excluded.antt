@@ -4,17 +4,21 @@
 --     does-nothing     one that does nothing, by `neg`; rests: the same of any run, by demand 3
 --     idles            a run that does its work in the first step and idles after
 --     made-up-count    a made-up step count: it is the next place less the start place
---     carry-dropped    a carry dropped between two words: ADD where ADDX should be
-use mathlib.Core.Path.{_≡_, refl, sym, ap, _∙_}
+--     carry-dropped    a carry dropped between two words: ADD where ADDX should be, from every start whose low words carry
+use mathlib.Core.Path.{_≡_, refl, sym, ap, ap₂, _∙_}
 use mathlib.Core.Bool.{true, false, true≢false}
 use mathlib.Core.List.{List, [], _∷_}
-use Prim.Native.Nat.{ℕ, suc, _+_, _-_, _^_}
+use Prim.Native.Nat.{ℕ, suc, _+_, _-_, _*_, _%_, _^_, _≤_, _<_}
+use mathlib.Core.Logic.{_⊎_, inl, inr}
+use native.Mathlib.Nat.{mod-lt}
 use native.Mathlib.Omega.{arith}
+use native.Mathlib.Decide.{decLt}
+use lib.Dec.{lit<}
 use lib.ListN.{getD, replicate}
 use Rattle.alu.specs.declared.types.Size.the-variants.{Byte}
 use Rattle.alu.specs.declared.types.Flags.{Flags}
 use Rattle.alu.specs.declared.types.Answer.{Answer}
-use Rattle.alu.specs.Bits.{top}
+use Rattle.alu.specs.Bits.{low, top}
 use Rattle.alu.specs.ConditionCodes.{addFlags, negFlags}
 use Rattle.alu.specs.Arith.{sum, difference, addOf}
 use Rattle.step.specs.declared.registers.State.{State}
@@ -118,22 +122,58 @@ pub made-up-count : (l : List Step) (s : State) (p b : ℕ) (r : Ran) → r ≡ 
 made-up-count l s p b r meets =
     let e : r .next ≡ p + r .steps = ap (λ (r : Ran). r .next) meets ∙ (run-next performOf l s p b ∙ ap (λ (r : Ran). p + r .steps) (sym meets)) in omega arith
 
--- `add 0 1` at width 2 without its ADDX: 1 and FFFFFFFF make 0 where they should make 2 ^ 32
+-- `add 0 1` at width 2 without its ADDX, from any start: D0 to D3, then whatever else
 abbrev adding : List Line
 adding = record { verb = Add; a = 0; b = 1 } ∷ []
 
-abbrev dropping : Ran
-dropping = runOf performOf (two TwoOp.Add 0 2 ∷ two TwoOp.Add 1 3 ∷ []) start 0 256
+-- a sum of two numbers below m is cut to itself, or to itself less m
+abbrev Wrapped : (m x : ℕ) → Type 0
+Wrapped m x = (x % m ≡ x) ⊎ (x % m + m ≡ x)
 
-carry-is-gone : getD (numbersOf 2 (dropping .state .d)) 1 0 ≡ 0
-unfolding runOf top sum addFlags
-carry-is-gone = refl
+wraps-word : (x : ℕ) → x < 2 * 2 ^ 32 → Dec (x < 2 ^ 32) → Wrapped (2 ^ 32) x
+wraps-word x h (yes l) = inl (omega arith)
+wraps-word x h (no g) = inr (omega arith)
 
-carry-is-due : getD (rulesOf 2 adding (saidBy 2 start) .numbers) 1 0 ≡ 2 ^ 32
-unfolding rulesOf
-carry-is-due = refl
+wraps-pair : (x : ℕ) → x < 2 * 2 ^ 64 → Dec (x < 2 ^ 64) → Wrapped (2 ^ 64) x
+wraps-pair x h (yes l) = inl (omega arith)
+wraps-pair x h (no g) = inr (omega arith)
 
-pub carry-dropped : Meets 2 adding start dropping → ⊥
-carry-dropped meets =
-    let e : _≡_ {A = ℕ} 0 0x1_0000_0000 = sym carry-is-gone ∙ (ap (λ (ns : List ℕ). getD ns 1 0) (meets .rule .numbers) ∙ carry-is-due) in
-    omega arith
+-- low and high are the sums of the low words and of the high ones, and the low words carry
+one-short : (low high : ℕ) → 2 ^ 32 ≤ low → low < 2 * 2 ^ 32 → high < 2 * 2 ^ 32 → Wrapped (2 ^ 32) low → Wrapped (2 ^ 32) high → Wrapped (2 ^ 64) (low + 2 ^ 32 * high)
+    → low % 2 ^ 32 + 2 ^ 32 * (high % 2 ^ 32) ≡ (low + 2 ^ 32 * high) % 2 ^ 64 → ⊥
+one-short low high c l h (inl p) q r e = let cut : low % 2 ^ 32 < 2 ^ 32 = mod-lt low (lit< tt) in omega (arith, p, cut)
+one-short low high c l h (inr p) (inl q) (inl r) e = omega (arith, p, q, r, e)
+one-short low high c l h (inr p) (inl q) (inr r) e = omega (arith, p, q, r, e)
+one-short low high c l h (inr p) (inr q) (inl r) e = omega (arith, p, q, r, e)
+one-short low high c l h (inr p) (inr q) (inr r) e = omega (arith, p, q, r, e)
+
+module _ (d0 d1 d2 d3 : ℕ) (rest a : List ℕ) (f : Flags) where
+  abbrev begun : State
+  begun = record { d = d0 ∷ d1 ∷ d2 ∷ d3 ∷ rest; a = a; flags = f }
+
+  abbrev dropping : Ran
+  dropping = runOf performOf (two TwoOp.Add 0 2 ∷ two TwoOp.Add 1 3 ∷ []) begun 0 2
+
+  -- number 1 as the run leaves it, and as the rule has it
+  carry-gone : getD (numbersOf 2 (dropping .state .d)) 1 0 ≡ (low 32 d2 + low 32 d0 + 0) % 2 ^ 32 + 2 ^ 32 * ((low 32 d3 + low 32 d1 + 0) % 2 ^ 32 + 2 ^ 32 * 0)
+  unfolding runOf sum
+  carry-gone = refl
+
+  carry-due : getD (rulesOf 2 adding (saidBy 2 begun) .numbers) 1 0 ≡ (d2 + 2 ^ 32 * (d3 + 2 ^ 32 * 0) + (d0 + 2 ^ 32 * (d1 + 2 ^ 32 * 0))) % 2 ^ 64
+  unfolding rulesOf
+  carry-due = refl
+
+  pub carry-dropped : d0 < 2 ^ 32 → d1 < 2 ^ 32 → d2 < 2 ^ 32 → d3 < 2 ^ 32 → 2 ^ 32 ≤ d0 + d2 → Meets 2 adding begun dropping → ⊥
+  carry-dropped h0 h1 h2 h3 carries meets =
+      let low = d2 + d0 in
+      let high = d3 + d1 in
+      let left : getD (numbersOf 2 (dropping .state .d)) 1 0 ≡ low % 2 ^ 32 + 2 ^ 32 * (high % 2 ^ 32) =
+      carry-gone ∙ (ap₂ {C = ℕ} (λ (l h : ℕ). l % 2 ^ 32 + 2 ^ 32 * (h % 2 ^ 32 + 2 ^ 32 * 0)) (cut h2 h0) (cut h3 h1) ∙ omega arith) in
+      let right : (d2 + 2 ^ 32 * (d3 + 2 ^ 32 * 0) + (d0 + 2 ^ 32 * (d1 + 2 ^ 32 * 0))) % 2 ^ 64 ≡ (low + 2 ^ 32 * high) % 2 ^ 64 = ap (λ (v : ℕ). v % 2 ^ 64) (omega arith) in
+      one-short low high (omega arith) (omega arith) (omega arith)
+      (wraps-word low (omega arith) (decLt low (2 ^ 32))) (wraps-word high (omega arith) (decLt high (2 ^ 32)))
+      (wraps-pair (low + 2 ^ 32 * high) (omega arith) (decLt (low + 2 ^ 32 * high) (2 ^ 64)))
+      (sym left ∙ (ap (λ (ns : List ℕ). getD ns 1 0) (meets .rule .numbers) ∙ (carry-due ∙ right)))
+    where
+      cut : {x y : ℕ} → x < 2 ^ 32 → y < 2 ^ 32 → x % 2 ^ 32 + y % 2 ^ 32 + 0 ≡ x + y
+      cut {x} {y} h l = omega arith

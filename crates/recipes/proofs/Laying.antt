@@ -7,6 +7,7 @@ use native.Mathlib.Omega.{arith}
 use lib.ListN.{length, take, drop, getD, set, length-replicate}
 use lib.Seq.{drop-cons, take-suc, set-at, length-take-le}
 use Rattle.step.specs.declared.steps.Step.{Step}
+use Rattle.step.specs.Run.{arraySlots}
 use Rattle.recipes.specs.declared.types.Line.{Line}
 use Rattle.recipes.specs.Recipe.{unused, Names, Accepted}
 use Rattle.recipes.specs.Listing.{lineSteps, listingOf, stepsAt, stepsOf, over, blank, blanks}
@@ -96,7 +97,7 @@ module _ (w count : ℕ) (lines : List Line) (steps : List Step) (k j at : ℕ) 
       let most = steps-prefix w (s .ready .many) lines in
       let c = s .ready .counted in
       let d = s .ready .within in
-      let slots : length blanks ≡ 256 = length-replicate 256 blank in
+      let slots : length blanks ≡ arraySlots = length-replicate arraySlots blank in
       rw (s .placed, listing-at w lines k j line-there (here .step), ← here .place, one) (over-next (listingOf w lines) blanks at (omega arith) (omega arith))
 
   -- a step of the same line comes next

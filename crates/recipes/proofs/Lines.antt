@@ -13,29 +13,30 @@ use Rattle.recipes.specs.Text.{before, after, parts}
 use Rattle.recipes.specs.Reader.{padded, accepted, refusedAt, orSlip, lineOf, linesOf}
 use Rattle.recipes.specs.declared.types.Line.{Line}
 use Rattle.recipes.specs.declared.types.Refusal.the-variants.{Syntax, TooManyLines}
+use Rattle.recipes.specs.Recipe.{linesMax}
 
 module _ (w : ℕ) (ls : List Line) where
-  -- a line has begun behind 32
-  pub lines-many : (xs : List ℕ) → 0 < length xs → length ls ≡ 32 → linesOf w ls (before 10 xs) (after 10 xs) ≡ refusedAt TooManyLines (length ls + 2)
+  -- a line has begun behind `linesMax`
+  pub lines-many : (xs : List ℕ) → 0 < length xs → length ls ≡ linesMax → linesOf w ls (before 10 xs) (after 10 xs) ≡ refusedAt TooManyLines (length ls + 2)
   unfolding linesOf before after
   lines-many [] h e = absurd (not-suc-le-zero h)
   lines-many (x ∷ xs) h e = go (eqb x 10) (after 10 xs)
     where
       go : (t : Bool) (more : List (List ℕ)) → linesOf w ls (cond t [] (x ∷ before 10 xs)) (cond t (parts 10 xs) more) ≡ refusedAt TooManyLines (length ls + 2)
-      go true more = rw (eq-eqb (length ls) 32 e)
-      go false [] = rw (eq-eqb (length ls) 32 e)
-      go false (next ∷ more) = rw (eq-eqb (length ls) 32 e)
+      go true more = rw (eq-eqb (length ls) linesMax e)
+      go false [] = rw (eq-eqb (length ls) linesMax e)
+      go false (next ∷ more) = rw (eq-eqb (length ls) linesMax e)
 
   -- the text ends in a line
-  pub lines-cut : (xs : List ℕ) → 0 < length xs → length ls < 32 → linesOf w ls xs [] ≡ refusedAt Syntax (length ls + 2)
+  pub lines-cut : (xs : List ℕ) → 0 < length xs → length ls < linesMax → linesOf w ls xs [] ≡ refusedAt Syntax (length ls + 2)
   unfolding linesOf
   lines-cut [] h l = absurd (not-suc-le-zero h)
-  lines-cut (x ∷ xs) h l = rw (ne-eqb (length ls) 32 (λ e. omega arith))
+  lines-cut (x ∷ xs) h l = rw (ne-eqb (length ls) linesMax (λ e. omega arith))
 
   -- a whole line, and the parts after it
-  pub lines-next : (row next : List ℕ) (more : List (List ℕ)) → length ls < 32 → linesOf w ls row (next ∷ more) ≡ orSlip (lineOf (8 / w) row) (length ls + 2) (λ l. linesOf w (ls ++ (l ∷ [])) next more)
+  pub lines-next : (row next : List ℕ) (more : List (List ℕ)) → length ls < linesMax → linesOf w ls row (next ∷ more) ≡ orSlip (lineOf (8 / w) row) (length ls + 2) (λ l. linesOf w (ls ++ (l ∷ [])) next more)
   unfolding linesOf
-  lines-next row next more l = rw (ne-eqb (length ls) 32 (λ e. omega arith))
+  lines-next row next more l = rw (ne-eqb (length ls) linesMax (λ e. omega arith))
 
   -- no text is left
   pub lines-done : (xs : List ℕ) → length xs ≤ 0 → linesOf w ls (before 10 xs) (after 10 xs) ≡ accepted w ls
@@ -44,7 +45,7 @@ module _ (w : ℕ) (ls : List Line) where
   lines-done (x ∷ xs) h = absurd (not-suc-le-zero h)
 
 -- one more slot is filled
-pub padded-more : (ls : List Line) (l : Line) → length ls < 32 → set (padded ls) (length ls) l ≡ padded (ls ++ (l ∷ []))
+pub padded-more : (ls : List Line) (l : Line) → length ls < linesMax → set (padded ls) (length ls) l ≡ padded (ls ++ (l ∷ []))
 padded-more ls l h =
     let n : 32 - length ls ≡ suc (32 - length (ls ++ (l ∷ []))) = rw length-append (omega arith) in
     rw (n, set-append-seam, append-assoc)

@@ -37,7 +37,7 @@ use Rattle.recipes.specs.Text.{Written, written, writing, decimalIn, dec
 use Rattle.recipes.specs.Recipe.{numberOf, isNothing}
 use Rattle.recipes.specs.Reader.{readOf}
 use Rattle.recipes.specs.Listing.{translateOf, blanks, clocksOf}
-use Rattle.recipes.specs.Printer.{twoName, addressName, quickName, oneName, shiftName, bitName, operationText, sizeText, registerText, countText, sourceText, destinationText, stepText, stepsText, listingText, refusalText, printedOf, answerOf}
+use Rattle.recipes.specs.Printer.{printMax, twoName, addressName, quickName, oneName, shiftName, bitName, operationText, sizeText, registerText, countText, sourceText, destinationText, stepText, stepsText, listingText, refusalText, printedOf, answerOf}
 use Rattle.recipes.proofs.Settling.{blanks-count}
 
 -- ---- parts of a line
@@ -167,12 +167,12 @@ refusal-short k line =
     let b = marked-short 9 line in
     rw (length-append, length-append, length-append) (omega arith)
 
-printed-short : (r : Recipe) → length (printedOf r) ≤ 20480
+printed-short : (r : Recipe) → length (printedOf r) ≤ printMax
 unfolding printedOf
 printed-short r = go (isNothing (translateOf r blanks .refusal))
   where
     go : (t : Bool)
-        → length (cond t (listingText (r .width) (take (translateOf r blanks .count) (translateOf r blanks .steps))) (refusalText (translateOf r blanks .refusal) (translateOf r blanks .line))) ≤ 20480
+        → length (cond t (listingText (r .width) (take (translateOf r blanks .count) (translateOf r blanks .steps))) (refusalText (translateOf r blanks .refusal) (translateOf r blanks .line))) ≤ printMax
     go true =
         let few = blanks-count r in
         let many = length-take (translateOf r blanks .count) (translateOf r blanks .steps) in
@@ -180,11 +180,11 @@ printed-short r = go (isNothing (translateOf r blanks .refusal))
         omega arith
     go false = let short = refusal-short (translateOf r blanks .refusal) (translateOf r blanks .line) in omega arith
 
-pub answer-short : (text : List ℕ) → length (answerOf text) ≤ 20480
+pub answer-short : (text : List ℕ) → length (answerOf text) ≤ printMax
 unfolding answerOf
 answer-short text = go (isNothing (readOf text .refusal))
   where
-    go : (t : Bool) → length (cond t (printedOf (readOf text .recipe)) (refusalText (readOf text .refusal) (readOf text .line))) ≤ 20480
+    go : (t : Bool) → length (cond t (printedOf (readOf text .recipe)) (refusalText (readOf text .refusal) (readOf text .line))) ≤ printMax
     go true = printed-short (readOf text .recipe)
     go false = let short = refusal-short (readOf text .refusal) (readOf text .line) in omega arith
 
@@ -195,7 +195,7 @@ pub counted : (o s p : List ℕ) (r : ℕ) → written p r ≡ writing o s → C
 unfolding writing
 counted o s p r e =
     let bytes : p ≡ take (length o) s ++ drop (length s) o = ap (λ (w : Written). w .bytes) e in
-    let next : r ≡ min (length s) (length o) = ap (λ (w : Written). w .length) e in
+    let next : r ≡ min (length s) (length o) = ap (λ (w : Written). w .count) e in
     let long : length p ≡ min (length o) (length s) + (length o - length s) = ap length bytes ∙ rw (length-append, length-take, length-drop) in
     let h : r ≤ length p = omega arith in
     (h, sym (length-take-le r p h))
@@ -204,6 +204,6 @@ pub whole-written : (o s p : List ℕ) (r : ℕ) → written p r ≡ writing o s
 unfolding writing
 whole-written o s p r e h =
     let bytes : p ≡ take (length o) s ++ drop (length s) o = ap (λ (w : Written). w .bytes) e in
-    let next : r ≡ min (length s) (length o) = ap (λ (w : Written). w .length) e in
+    let next : r ≡ min (length s) (length o) = ap (λ (w : Written). w .count) e in
     let all : length s ≡ r = omega arith in
     rw (bytes, take-all (length o) s h) (take-at s (drop (length s) o) r all)

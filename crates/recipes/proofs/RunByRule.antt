@@ -29,7 +29,7 @@ use Rattle.recipes.specs.declared.types.Codes.the-variants.{Known}
 use Rattle.recipes.specs.declared.types.RecipeRun.{RecipeRun}
 use Rattle.recipes.specs.Recipe.{isNothing, unused, recipeLines}
 use Rattle.recipes.specs.Reader.{readOf}
-use Rattle.recipes.specs.Listing.{listingOf, stepsOf, over, listed, translateOf, blanks}
+use Rattle.recipes.specs.Listing.{stepsMax, listingOf, stepsOf, over, listed, translateOf, blanks}
 use Rattle.recipes.specs.Rule.{codesOf, Account, saidBy, ruleOf, rulesOf}
 use Rattle.recipes.specs.Demand.{EightLongs, Holds, Meets, ranByRule, untouched, recipeRunOf, textRunOf}
 use Rattle.recipes.specs.Making.{toldAfter, codesAfter}
@@ -124,15 +124,15 @@ ruled-by r s t k slots g h =
 
 -- the listing that was made of a good recipe meets it, run whole
 pub run-ruled : (r : Recipe) (s : State) (made : Listing) (t : Ran) (codes : Codes) → made ≡ translateOf r blanks → isNothing (made .refusal) ≡ true → EightLongs (s .d)
-    → t ≡ runOf performOf (take (made .count) (made .steps)) s 0 256 → codes ≡ codesAfter (recipeLines r) (t .state .flags) → answered made t codes ≡ recipeRunOf r s
+    → t ≡ runOf performOf (take (made .count) (made .steps)) s 0 stepsMax → codes ≡ codesAfter (recipeLines r) (t .state .flags) → answered made t codes ≡ recipeRunOf r s
 run-ruled r s made t codes is e ok ran told =
     let g = made-good r made is e in
     let fits = blanks-fit r (width-is (r .width) (g .width) .1) (g .few) in
-    let few : made .count ≤ 256 = subst⁻¹ (λ (l : Listing). l .count ≤ 256) is (blanks-count r) in
+    let few : made .count ≤ stepsMax = subst⁻¹ (λ (l : Listing). l .count ≤ stepsMax) is (blanks-count r) in
     let meets : Meets (r .width) (recipeLines r) s t =
     subst⁻¹ (Meets (r .width) (recipeLines r) s) ran
-    (subst⁻¹ (λ (l : Listing). isNothing (l .refusal) ≡ true → l .count ≤ 256 → Meets (r .width) (recipeLines r) s (runOf performOf (take (l .count) (l .steps)) s 0 256)) is
-    (λ e few. one-by-one r blanks e s ok 256 [] few .meets) e few) in
+    (subst⁻¹ (λ (l : Listing). isNothing (l .refusal) ≡ true → l .count ≤ stepsMax → Meets (r .width) (recipeLines r) s (runOf performOf (take (l .count) (l .steps)) s 0 stepsMax)) is
+    (λ e few. one-by-one r blanks e s ok stepsMax [] few .meets) e few) in
     ap₂ {C = RecipeRun} (λ (l : Listing) (c : Codes). answered l t c) (is ∙ good-translates r blanks g fits) told
     ∙ ruled-by r s t (stepsOf (r .width) (recipeLines r)) (over (listingOf (r .width) (recipeLines r)) blanks) g meets
 

@@ -1,8 +1,8 @@
 -- Laws by which a translation in an array is that into any row of slots. Assumes nothing.
 --     ready           what `judge` answers is ready to be laid out
---     laid            and laid out it is the translation into 256 blank slots
+--     laid            and laid out it is the translation into blank slots
 --     translate-lent  and copied from there it is the translation into the slots that are lent
---     blanks-count    a translation in an array has at most 256 steps
+--     blanks-count    a translation in an array has at most `stepsMax` steps
 --     settled-room    what is told of it for a row of slots has no more steps than the row
 --     settled-count   and no more than the array
 use Prim.Native.Nat.{ℕ, _+_, _≤_, _<_, min}
@@ -21,19 +21,19 @@ use Rattle.recipes.specs.declared.types.Recipe.{Recipe}
 use Rattle.recipes.specs.declared.types.Refusal.the-variants.{Nothing, NoSpace}
 use Rattle.recipes.specs.declared.types.Translated.{Translated}
 use Rattle.recipes.specs.declared.types.Listing.{Listing}
-use Rattle.recipes.specs.Recipe.{recipeLines, Accepted}
-use Rattle.recipes.specs.Listing.{listingOf, stepsOf, over, listed, translateOf, translated, blanks}
+use Rattle.recipes.specs.Recipe.{linesMax, recipeLines, Accepted}
+use Rattle.recipes.specs.Listing.{stepsMax, listingOf, stepsOf, over, listed, translateOf, translated, blanks}
 use Rattle.recipes.specs.Making.{told, refused, judgeOf, Layable, settledOf}
 use Rattle.recipes.proofs.Steps.{listing-steps, listing-prefix, steps-most}
 use Rattle.recipes.proofs.Accepting.{width-is, tests-agree}
 
--- a recipe's lines take at most 256 steps
-pub few-steps : (r : Recipe) → r .width ≤ 4 → r .count ≤ 32 → stepsOf (r .width) (recipeLines r) ≤ 256
+-- a recipe's lines take at most `stepsMax` steps
+pub few-steps : (r : Recipe) → r .width ≤ 4 → r .count ≤ linesMax → stepsOf (r .width) (recipeLines r) ≤ stepsMax
 few-steps r w c =
     let some : length (recipeLines r) ≡ min (r .count) (length (r .lines)) = length-take (r .count) (r .lines) in
     let most = steps-most (r .width) (recipeLines r) w in omega arith
 
-pub ready : (r : Recipe) → length (r .lines) ≡ 32 → Layable (r .width) (r .lines) (judgeOf r .count)
+pub ready : (r : Recipe) → length (r .lines) ≡ linesMax → Layable (r .width) (r .lines) (judgeOf r .count)
 ready r n =
     tests-agree (λ (t _ : Translated). Layable (r .width) (r .lines) (t .count)) refused refused (λ k line e. none) r (told Nothing 0 (stepsOf (r .width) (recipeLines r)))
     (told Nothing 0 (stepsOf (r .width) (recipeLines r))) (λ g. whole (width-is (r .width) (g .width)) (g .few) (g .lines))
@@ -41,7 +41,7 @@ ready r n =
     none : Layable (r .width) (r .lines) 0
     none = record { many = 0; within = omega arith; width = λ h. absurd (omega arith); named = λ h. absurd (omega arith); counted = omega arith; held = omega arith }
 
-    whole : (0 < r .width) × (r .width ≤ 4) → r .count ≤ 32 → Accepted (r .width) (recipeLines r) → Layable (r .width) (r .lines) (stepsOf (r .width) (recipeLines r))
+    whole : (0 < r .width) × (r .width ≤ 4) → r .count ≤ linesMax → Accepted (r .width) (recipeLines r) → Layable (r .width) (r .lines) (stepsOf (r .width) (recipeLines r))
     whole w c a = record { many = r .count; within = few-steps r (w .1) c; width = λ h. w; named = λ h. a; counted = omega arith; held = omega arith }
 
 -- the translation that stands where all tests are passed
@@ -55,7 +55,7 @@ whole-fits w ls slots h = rw (le-leb (stepsOf w ls) (length slots) h)
 whole-short : (w : ℕ) (ls : List Line) (slots : List Step) → length slots < stepsOf w ls → whole w ls slots ≡ listed NoSpace 0 0 slots
 whole-short w ls slots h = rw (lt-leb (stepsOf w ls) (length slots) h)
 
-pub blanks-fit : (r : Recipe) → r .width ≤ 4 → r .count ≤ 32 → stepsOf (r .width) (recipeLines r) ≤ length blanks
+pub blanks-fit : (r : Recipe) → r .width ≤ 4 → r .count ≤ linesMax → stepsOf (r .width) (recipeLines r) ≤ length blanks
 blanks-fit r w c = rw length-replicate (few-steps r w c)
 
 pub laid : (r : Recipe)
@@ -66,7 +66,7 @@ laid r =
     refused (λ k line. listed k line 0 blanks) (λ k line e. refl) r (told Nothing 0 (stepsOf (r .width) (recipeLines r)))
     (whole (r .width) (recipeLines r) blanks) (λ g. there (width-is (r .width) (g .width)) (g .few))
   where
-    there : (0 < r .width) × (r .width ≤ 4) → r .count ≤ 32
+    there : (0 < r .width) × (r .width ≤ 4) → r .count ≤ linesMax
         → listed Nothing 0 (stepsOf (r .width) (recipeLines r)) (over (take (stepsOf (r .width) (recipeLines r)) (listingOf (r .width) (r .lines))) blanks)
         ≡ whole (r .width) (recipeLines r) blanks
     there w c =
@@ -96,17 +96,17 @@ translate-lent r slots =
     room (no h) =
         rw (whole-short (r .width) (recipeLines r) slots (omega arith), lt-ltb (length slots) (stepsOf (r .width) (recipeLines r)) (omega arith))
 
-    there : (0 < r .width) × (r .width ≤ 4) → r .count ≤ 32 → Accepted (r .width) (recipeLines r)
+    there : (0 < r .width) × (r .width ≤ 4) → r .count ≤ linesMax → Accepted (r .width) (recipeLines r)
         → copied (whole (r .width) (recipeLines r) blanks) slots ≡ whole (r .width) (recipeLines r) slots
     there w c a = rw (whole-fits (r .width) (recipeLines r) blanks (blanks-fit r (w .1) c)) (room (decLe (stepsOf (r .width) (recipeLines r)) (length slots)))
 
-pub blanks-count : (r : Recipe) → translateOf r blanks .count ≤ 256
+pub blanks-count : (r : Recipe) → translateOf r blanks .count ≤ stepsMax
 unfolding translateOf
 blanks-count r =
-    tests-agree (λ (l _ : Listing). l .count ≤ 256) (λ k line. listed k line 0 blanks) (λ k line. listed k line 0 blanks) (λ k line e. omega arith) r
+    tests-agree (λ (l _ : Listing). l .count ≤ stepsMax) (λ k line. listed k line 0 blanks) (λ k line. listed k line 0 blanks) (λ k line e. omega arith) r
     (whole (r .width) (recipeLines r) blanks) (whole (r .width) (recipeLines r) blanks) (λ g. there (width-is (r .width) (g .width)) (g .few))
   where
-    there : (0 < r .width) × (r .width ≤ 4) → r .count ≤ 32 → whole (r .width) (recipeLines r) blanks .count ≤ 256
+    there : (0 < r .width) × (r .width ≤ 4) → r .count ≤ linesMax → whole (r .width) (recipeLines r) blanks .count ≤ stepsMax
     there w c = rw (whole-fits (r .width) (recipeLines r) blanks (blanks-fit r (w .1) c)) (few-steps r (w .1) c)
 
 pub settled-room : (made : Listing) (room : ℕ) → settledOf made room .count ≤ room

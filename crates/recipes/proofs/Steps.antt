@@ -1,7 +1,7 @@
 -- Laws of the listing's length: document 01's number of steps. Assumes nothing.
 --     line-length     a line has w steps, a copy 2w
 --     listing-steps   so a listing has `stepsOf`
---     steps-most      at most 8 a line, so that 32 lines have at most 256
+--     steps-most      at most 8 a line, so that `linesMax` lines have at most `stepsMax`
 --     listing-append  the listing of lines and more lines is the one and then the other
 use Prim.Native.Nat.{ℕ, zero, suc, _+_, _*_, _≤_, _<_}
 use mathlib.Core.Bool.{Bool, true, false, cond}

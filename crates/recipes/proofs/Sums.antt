@@ -6,7 +6,7 @@ use lib.Dec.{T}
 use Rattle.alu.specs.Bits.{top}
 use Rattle.alu.specs.ConditionCodes.{addFlags, subFlags, negFlags}
 use Rattle.alu.specs.Arith.{sum, difference}
-use Rattle.alu.specs.Sums.{set, Row, atBoth, always, every}
+use Rattle.alu.specs.Sums.{on, Row, atBoth, always, every}
 use Rattle.alu.specs.Sums as Alu
 use Rattle.alu.proofs.Sums as Proved
 use Rattle.step.specs.Run.{runOf}
@@ -35,7 +35,7 @@ every-row [] rest h g = g
 every-row (row ∷ rows) rest h g = both (Alu.holds row) _ (first (Alu.holds row) _ h) (every-row rows rest (second (Alu.holds row) _ h) g)
 
 -- 1 is in D0, D2 holds FFFFFFFF: the carry goes on to D3, and the whole is negated
-twelfth : T (every holds (recipe (ascii "width\t2\nadd\t0\t1\nneg\t1\n") (1 ∷ 0 ∷ 0xffff_ffff ∷ 0 ∷ []) 0 0xffff_ffff set ∷ []))
+twelfth : T (every holds (recipe (ascii "width\t2\nadd\t0\t1\nneg\t1\n") (1 ∷ 0 ∷ 0xffff_ffff ∷ 0 ∷ []) 0 0xffff_ffff on ∷ []))
 unfolding every holds holdsAt atBoth always ranFrom readOf linesOf lineOf verbOf digitOf widthLine sameBytes before after lineChecked translateOf linesPass stepsOf listingOf lineSteps risingRest runOf top sum difference addFlags subFlags negFlags
 twelfth = tt
 

@@ -23,7 +23,7 @@ use Rattle.recipes.specs.declared.types.RecipeRun.{RecipeRun}
 use Rattle.recipes.specs.Recipe.{isNothing, recipeLines, Accepted}
 use Rattle.recipes.specs.Rule.{radix, numbersOf, registersOf, Account, saidBy, rulesOf}
 use Rattle.recipes.specs.Reader.{readOf}
-use Rattle.recipes.specs.Listing.{listingOf, stepsOf, clocksOf, tested, translateOf}
+use Rattle.recipes.specs.Listing.{listingOf, stepsOf, stepsMax, clocksOf, tested, translateOf}
 
 -- ---- what a state may say
 
@@ -62,8 +62,8 @@ pub record Finishes (w : ℕ) (ls : List Line) (l : List Step) (s : State) (b : 
   pub end : runInParts performOf l s 0 b bs .end ≡ Finished
   pub meets : Meets w ls s (runInParts performOf l s 0 b bs)
 
--- Widths 1, 2 and 4 are instances. Each budget of the code has 32 bits; this speaks of every such budget, and of any greater. An accepted recipe of at most
--- 32 lines has at most 256 steps (`steps-few` of proofs/Demand), so that a single budget of 256 is enough for every one.
+-- Widths 1, 2 and 4 are instances. Each budget of the code has 32 bits; this speaks of every such budget, and of any greater. An accepted recipe has at
+-- most `stepsMax` steps (`steps-few` of proofs/Demand), so that a single budget of as many is enough for every one.
 abbrev pub Demand3 : Type 0
 Demand3 =
     (w : ℕ) → 0 < w → (ls : List Line) → Accepted w ls → (s : State) → EightLongs (s .d) → (b : ℕ) (bs : List ℕ) → stepsOf w ls ≤ total b bs
@@ -87,9 +87,9 @@ CalledOneByOne =
     isNothing (t .refusal) ≡ true → (s : State) → EightLongs (s .d) → (b : ℕ) (bs : List ℕ) → t .count ≤ total b bs
     → Finishes (r .width) (recipeLines r) (take (t .count) (t .steps)) s b bs
 
--- and a text that is read is accepted by the translator, wherever it has 256 slots
+-- and a text that is read is accepted by the translator, wherever it has slots for the longest
 abbrev pub FromText : Type 0
-FromText = (text : List ℕ) (slots : List Step) → isNothing (readOf text .refusal) ≡ true → 256 ≤ length slots → isNothing (translateOf (readOf text .recipe) slots .refusal) ≡ true
+FromText = (text : List ℕ) (slots : List Step) → isNothing (readOf text .refusal) ≡ true → stepsMax ≤ length slots → isNothing (translateOf (readOf text .recipe) slots .refusal) ≡ true
 
 -- ---- what `run_recipe` and `run_text` answer
 
@@ -113,11 +113,11 @@ abbrev pub untouched : State → Refusal → (line : ℕ) → RecipeRun
 untouched s k line =
     record { refusal = k; line = line; d = s .d; a = s .a; x = s .flags .x; codes = Known (s .flags); steps = 0; clocks = 0 }
 
--- a recipe: by the translator's tests, of which 9 is never met, since there are 256 slots
+-- a recipe: by the translator's tests, of which 9 is never met, since an array has slots for the longest
 unfoldable pub recipeRunOf : Recipe → State → RecipeRun
 recipeRunOf r s = tested (untouched s) r (ranByRule (r .width) (recipeLines r) s)
 
--- a text of any length: by the reader's. (The 1,024 bytes are the program's)
+-- a text of any length: by the reader's. (That only `textMax` bytes are read is the program's)
 unfoldable pub textRunOf : List ℕ → State → RecipeRun
 textRunOf text s =
     let g = readOf text in

@@ -17,6 +17,7 @@ use Rattle.step.specs.declared.steps.Form.{Form}
 use Rattle.step.specs.declared.steps.Form.the-variants.{Two, One, Shift}
 use Rattle.step.specs.declared.steps.Step.{Step}
 use Rattle.step.specs.Perform.{performOf}
+use Rattle.step.specs.Run.{arraySlots}
 use Rattle.recipes.specs.declared.types.Verb.{Verb}
 use Rattle.recipes.specs.declared.types.Verb.the-variants.{Clear, Copy, Add, Sub, Neg, Not, Halve, Down, Up}
 use Rattle.recipes.specs.declared.types.Line.{Line}
@@ -27,7 +28,7 @@ use Rattle.recipes.specs.declared.types.Translated.{Translated}
 use Rattle.recipes.specs.declared.types.Listing.{Listing}
 use Rattle.recipes.specs.declared.reader.LineRead.{LineRead}
 use Rattle.recipes.specs.declared.reader.LineRead.the-variants.{Read, Slip}
-use Rattle.recipes.specs.Recipe.{isCopy, target, isWidth, recipeLines, lineChecked}
+use Rattle.recipes.specs.Recipe.{linesMax, isCopy, target, isWidth, recipeLines, lineChecked}
 
 -- ---- the steps: all are long, from data register p to data register q; a shift is by #1
 
@@ -121,6 +122,10 @@ unfoldable pub stepsOf : (w : ℕ) → List Line → ℕ
 stepsOf w [] = 0
 stepsOf w (l ∷ ls) = stepsAt (l .verb) * w + stepsOf w ls
 
+-- the most steps of a recipe (`steps-few` of proofs/Demand: none has more). An array has slots for them
+abbrev pub stepsMax : ℕ
+stepsMax = 256
+
 -- ---- clock figures
 
 -- A step's figure, as the step machine gives it from cleared registers and flags. A step of an accepted recipe's listing has this figure in every state
@@ -137,7 +142,7 @@ unfoldable pub clocksOf : List Step → ℕ
 clocksOf [] = 0
 clocksOf (k ∷ ks) = figureOf k + clocksOf ks
 
--- ---- the translator's tests, in document 01's order: 4 (line 1); more than 32 lines, 8 (line 0); 6 and 7 on each line. `refused k line` is what a
+-- ---- the translator's tests, in document 01's order: 4 (line 1); too many lines, 8 (line 0); 6 and 7 on each line. `refused k line` is what a
 -- refusal answers, and `go` what is answered when all are passed
 
 module _ {R : Type 0} (refused : Refusal → ℕ → R) where
@@ -153,7 +158,7 @@ module _ {R : Type 0} (refused : Refusal → ℕ → R) where
   abbrev pub tested : Recipe → (go : R) → R
   tested r go =
       cond (isWidth (r .width))
-      (cond (leb (r .count) 32) (linesPass (8 / r .width) 2 (recipeLines r) go) (refused TooManyLines 0))
+      (cond (leb (r .count) linesMax) (linesPass (8 / r .width) 2 (recipeLines r) go) (refused TooManyLines 0))
       (refused WidthLine 1)
 
 -- ---- the translation, into a row of slots
@@ -162,7 +167,7 @@ module _ {R : Type 0} (refused : Refusal → ℕ → R) where
 abbrev pub over : (new old : List Step) → List Step
 over new old = new ++ drop (length new) old
 
--- (a `Listing` here has a row of any length; that of the code has 256 slots)
+-- (a `Listing` here has a row of any length; that of the code has `arraySlots`)
 abbrev pub listed : Refusal → (line count : ℕ) → List Step → Listing
 listed refusal line count steps = record { refusal = refusal; line = line; count = count; steps = steps }
 
@@ -179,9 +184,9 @@ translateOf r slots =
 abbrev pub translated : Translated → (slots : List Step) → Listing
 translated t slots = listed (t .refusal) (t .line) (t .count) slots
 
--- 256 blank slots. A blank slot holds a step on D255, which the machine refuses
+-- the blank slots of an array. A blank slot holds a step on D255, which the machine refuses
 abbrev pub blank : Step
 blank = one OneOp.Clr 255
 
 abbrev pub blanks : List Step
-blanks = replicate 256 blank
+blanks = replicate arraySlots blank

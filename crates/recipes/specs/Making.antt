@@ -9,6 +9,7 @@ use lib.ListN.{length, take, drop}
 use lib.Seq.{sets}
 use Rattle.alu.specs.declared.types.Flags.{Flags}
 use Rattle.step.specs.declared.steps.Step.{Step}
+use Rattle.step.specs.Run.{arraySlots}
 use Rattle.recipes.specs.declared.types.Verb.{Verb}
 use Rattle.recipes.specs.declared.types.Verb.the-variants.{Clear, Copy, Add, Sub, Neg, Not, Halve, Down, Up}
 use Rattle.recipes.specs.declared.types.Line.{Line}
@@ -89,7 +90,7 @@ judgeOf r = tested refused r (told Nothing 0 (stepsOf (r .width) (recipeLines r)
 -- the first `count` steps of the lines can be laid out
 pub record Layable (w : ℕ) (lines : List Line) (count : ℕ) : Type 0 where
   pub many : ℕ
-  pub within : count ≤ 256
+  pub within : count ≤ arraySlots
   pub width : 0 < count → (0 < w) × (w ≤ 4)
   pub named : 0 < count → Accepted w (take many lines)
   pub counted : count ≤ stepsOf w (take many lines)

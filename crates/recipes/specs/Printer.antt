@@ -163,7 +163,7 @@ refusalText k line = ascii "refused" ++ (fieldOf (numberOf k) ++ (fieldOf line +
 abbrev pub listingPrinted : (w : ℕ) → Listing → List ℕ
 listingPrinted w l = cond (isNothing (l .refusal)) (listingText w (take (l .count) (l .steps))) (refusalText (l .refusal) (l .line))
 
--- a recipe's listing in 256 slots, or its refusal
+-- a recipe's listing, made in an array, or its refusal
 unfoldable pub printedOf : Recipe → List ℕ
 printedOf r = listingPrinted (r .width) (translateOf r blanks)
 
@@ -173,3 +173,11 @@ readingPrinted r = cond (isNothing (r .refusal)) (printedOf (r .recipe)) (refusa
 -- what the program prints for a text
 unfoldable pub answerOf : List ℕ → List ℕ
 answerOf text = readingPrinted (readOf text)
+
+-- the bytes that the program reads of a text (`cut-answers` of proofs/Cut: they are answered as the whole text is), and its room for an answer
+-- (`answer-short` of proofs/Room: none is longer)
+abbrev pub textMax : ℕ
+textMax = 1024
+
+abbrev pub printMax : ℕ
+printMax = 20480

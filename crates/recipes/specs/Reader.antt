@@ -17,7 +17,7 @@ use Rattle.recipes.specs.declared.reader.Digit.the-variants.{Is, Bad}
 use Rattle.recipes.specs.declared.reader.LineRead.{LineRead}
 use Rattle.recipes.specs.declared.reader.LineRead.the-variants.{Read, Slip}
 use Rattle.recipes.specs.Text.{ascii, sameBytes, before, after}
-use Rattle.recipes.specs.Recipe.{takesTwo, isWidth, unused, lineChecked}
+use Rattle.recipes.specs.Recipe.{linesMax, takesTwo, isWidth, unused, lineChecked}
 
 -- ---- answers
 
@@ -27,7 +27,7 @@ readingOf refusal line width count lines =
 
 -- lines, and `clear 0` in the slots past them
 abbrev pub padded : List Line → List Line
-padded ls = ls ++ replicate (32 - length ls) unused
+padded ls = ls ++ replicate (linesMax - length ls) unused
 
 -- a recipe of width w with the lines ls
 abbrev pub accepted : (w : ℕ) → List Line → Reading
@@ -105,7 +105,7 @@ lineOf n row = thenChecked n (fieldsOf (verbOf (before 9 row)) (after 9 row))
 -- what stands behind the last byte 10: nothing, or a line that lacks its byte 10
 abbrev pub endOf : (w : ℕ) → List Line → List ℕ → Reading
 endOf w ls [] = accepted w ls
-endOf w ls (x ∷ xs) = cond (eqb (length ls) 32) (refusedAt TooManyLines (length ls + 2)) (refusedAt Syntax (length ls + 2))
+endOf w ls (x ∷ xs) = cond (eqb (length ls) linesMax) (refusedAt TooManyLines (length ls + 2)) (refusedAt Syntax (length ls + 2))
 
 abbrev pub orSlip : LineRead → (line : ℕ) → (Line → Reading) → Reading
 orSlip (Slip k) line go = refusedAt k line
@@ -116,7 +116,7 @@ orSlip (Read l) line go = go l
 unfoldable pub linesOf : (w : ℕ) → List Line → (row : List ℕ) → (more : List (List ℕ)) → Reading
 linesOf w ls row [] = endOf w ls row
 linesOf w ls row (next ∷ more) =
-    cond (eqb (length ls) 32) (refusedAt TooManyLines (length ls + 2))
+    cond (eqb (length ls) linesMax) (refusedAt TooManyLines (length ls + 2))
     (orSlip (lineOf (8 / w) row) (length ls + 2) (λ l. linesOf w (ls ++ (l ∷ [])) next more))
 
 -- ---- the width line

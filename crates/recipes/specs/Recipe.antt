@@ -14,6 +14,10 @@ use Rattle.recipes.specs.declared.types.Refusal.the-variants.{Nothing, W
 use Rattle.recipes.specs.declared.reader.LineRead.{LineRead}
 use Rattle.recipes.specs.declared.reader.LineRead.the-variants.{Read, Slip}
 
+-- the most lines of a recipe
+abbrev pub linesMax : ℕ
+linesMax = 32
+
 -- document 01's refusal numbers; 0 is none
 abbrev pub numberOf : Refusal → ℕ
 numberOf Nothing = 0

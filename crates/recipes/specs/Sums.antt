@@ -6,7 +6,7 @@ use mathlib.Core.List.{List, [], _∷_, _++_, map}
 use lib.Dec.{eqb}
 use lib.ListN.{getD, take, replicate}
 use Rattle.alu.specs.declared.types.Flags.{Flags}
-use Rattle.alu.specs.Sums.{Said, set, meets, Row, always}
+use Rattle.alu.specs.Sums.{Said, on, meets, Row, always}
 use Rattle.alu.specs.Sums as Alu
 use Rattle.step.specs.declared.registers.State.{State}
 use Rattle.step.specs.declared.runs.Ran.{Ran}
@@ -15,7 +15,7 @@ use Rattle.step.specs.Run.{runOf}
 use Rattle.recipes.specs.Text.{ascii}
 use Rattle.recipes.specs.Recipe.{isNothing}
 use Rattle.recipes.specs.Reader.{readOf}
-use Rattle.recipes.specs.Listing.{translateOf, blanks}
+use Rattle.recipes.specs.Listing.{stepsMax, translateOf, blanks}
 
 -- a sum: of one operation; or a recipe text, the data registers D0 to D3 before (the others are 0), and D2, D3 and X after
 pub data Sum : Type 0 where
@@ -25,11 +25,11 @@ pub data Sum : Type 0 where
 unfoldable pub sums : List Sum
 sums =
     map single Alu.table ++  -- 1 to 11
-    recipe (ascii "width\t2\nadd\t0\t1\nneg\t1\n") (1 ∷ 0 ∷ 0xffff_ffff ∷ 0 ∷ []) 0 0xffff_ffff set ∷ []  -- 12
+    recipe (ascii "width\t2\nadd\t0\t1\nneg\t1\n") (1 ∷ 0 ∷ 0xffff_ffff ∷ 0 ∷ []) 0 0xffff_ffff on ∷ []  -- 12
 
--- a text run whole, from the state s; 256 steps are enough for any recipe
+-- a text run whole, from the state s
 unfoldable pub ranFrom : (text : List ℕ) → State → Ran
-ranFrom text s = let t = translateOf (readOf text .recipe) blanks in runOf performOf (take (t .count) (t .steps)) s 0 256
+ranFrom text s = let t = translateOf (readOf text .recipe) blanks in runOf performOf (take (t .count) (t .steps)) s 0 stepsMax
 
 unfoldable pub holdsAt : (text before : List ℕ) → (d2 d3 : ℕ) → (x : Said) → Flags → Bool
 holdsAt text before d2 d3 x f =

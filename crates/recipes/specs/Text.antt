@@ -50,10 +50,10 @@ decimalOf n = decimalIn 20 n
 -- what a printer leaves: the slice that it was lent, and how many bytes it wrote
 pub record Written : Type 0 where
   pub bytes : List ℕ
-  pub length : ℕ
+  pub count : ℕ
 
 abbrev pub written : List ℕ → ℕ → Written
-written bytes n = record { bytes = bytes; length = n }
+written bytes n = record { bytes = bytes; count = n }
 
 -- a text stands at the front of the slice, as much of it as there is room for, and what is behind it stays
 unfoldable pub writing : (old : List ℕ) → (text : List ℕ) → Written

@@ -30,6 +30,7 @@ use alu::shift_rotate::ShiftOp;
 use alu::types::Flags;
 use alu::types::Size;
 use step::registers::State;
+use step::runs::SLOTS;
 use step::steps::AddressOp;
 use step::steps::Count;
 use step::steps::Form;
@@ -220,12 +221,12 @@ fn put_step(out: &mut [u8], at: usize, place: u64, step: Step) -> usize
     put_byte(out, next, NEWLINE)
 }
 
-fn put_steps(out: &mut [u8], at: usize, steps: [Step; 256], count: usize) -> usize
+fn put_steps(out: &mut [u8], at: usize, steps: [Step; SLOTS], count: usize) -> usize
     ensures { λ r. ⌜ Wrote (now (out .entry)) at (stepsText 0 (take count steps)) (now (out .exit)) r ⌝ }
 {
     let mut next = at;
     let mut k: usize = 0;
-    while k < 256 {
+    while k < SLOTS {
         if count <= k {
             return next;
         }
@@ -263,12 +264,12 @@ fn figure(step: Step) -> u64
     performed.clocks as u64
 }
 
-fn clocks(steps: [Step; 256], count: usize) -> u64
+fn clocks(steps: [Step; SLOTS], count: usize) -> u64
     ensures { λ r. ⌜ r ≡ clocksOf (take count steps) ⌝ }
 {
     let mut sum: u64 = 0;
     let mut k: usize = 0;
-    while k < 256 {
+    while k < SLOTS {
         if count <= k {
             return sum;
         }
@@ -295,11 +296,11 @@ fn put_head(out: &mut [u8], word: &[u8], a: u64, b: u64) -> usize
     put_byte(out, next, NEWLINE)
 }
 
-// Prints the first `count` steps of a listing; a count above 256 means all 256.
-pub fn print(width: u8, steps: [Step; 256], count: usize, out: &mut [u8]) -> usize
+// Prints the first `count` steps of a listing; a count above `SLOTS` means all of them.
+pub fn print(width: u8, steps: [Step; SLOTS], count: usize, out: &mut [u8]) -> usize
     ensures { λ r. ⌜ written (now (out .exit)) r ≡ writing (now (out .entry)) (listingText width (take count steps)) ⌝ }
 {
-    let many = lesser(count, 256);
+    let many = lesser(count, SLOTS);
     let sum = clocks(steps, count);
     let next = put_head(out, b"width", width as u64, many as u64);
     let next = put_steps(out, next, steps, count);

@@ -6,12 +6,13 @@ ghost use mathlib.Core.List.{[]};
 ghost use lib.ListN.{replicate};
 ghost use Rattle.recipes.specs.declared.reader.VerbRead.the-variants.{Known};
 ghost use Rattle.recipes.specs.Text.{before, after, parts, sameBytes};
-ghost use Rattle.recipes.specs.Recipe.{unused, lineChecked};
+ghost use Rattle.recipes.specs.Recipe.{linesMax, unused, lineChecked};
 ghost use Rattle.recipes.specs.Reader.{verbOf, digitOf, onlyDigit, oneField, twoFields, fieldsOf, lineOf, readingOf, refusedAt, linesOf, widthDigit, widthLine, readOf};
 use super::text::NEWLINE;
 use super::text::TAB;
 use super::text::first;
 use super::text::same;
+use super::types::LINES_MAX;
 use super::types::Line;
 use super::types::Reading;
 use super::types::Recipe;
@@ -194,18 +195,18 @@ fn read_width(row: &[u8]) -> u8
 }
 
 // Lines that don't count.
-fn no_lines() -> [Line; 32]
-    ensures { λ r. ⌜ r ≡ replicate 32 unused ⌝ }
+fn no_lines() -> [Line; LINES_MAX]
+    ensures { λ r. ⌜ r ≡ replicate linesMax unused ⌝ }
 {
     let unused = Line {
         verb: Verb::Clear,
         a: 0,
         b: 0,
     };
-    [unused; 32]
+    [unused; LINES_MAX]
 }
 
-fn reading(refusal: Refusal, line: usize, width: u8, count: usize, lines: [Line; 32]) -> Reading
+fn reading(refusal: Refusal, line: usize, width: u8, count: usize, lines: [Line; LINES_MAX]) -> Reading
     ensures { λ r. ⌜ r ≡ readingOf refusal line width count lines ⌝ }
 {
     let recipe = Recipe {
@@ -238,7 +239,7 @@ fn read_lines(width: u8, text: &[u8]) -> Reading
     let mut count: usize = 0;
     let mut left = text;
     while 0 < left.len() {
-        if count == 32 {
+        if count == LINES_MAX {
             return refused(Refusal::TooManyLines, count + 2);
         }
         let end = first(left, NEWLINE);

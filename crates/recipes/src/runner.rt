@@ -2,15 +2,18 @@
 ghost use mathlib.Core.Path.{_≡_};
 ghost use Prim.Native.Nat.{_≤_};
 ghost use lib.ListN.{take};
+ghost use Rattle.recipes.specs.Recipe.{linesMax};
 ghost use Rattle.recipes.specs.Demand.{untouched, recipeRunOf, textRunOf};
 ghost use Rattle.recipes.specs.Making.{tellsAll, codesAfter};
 use super::reader::read;
 use super::translator::translate_array;
 use super::types::Codes;
+use super::types::LINES_MAX;
 use super::types::Line;
 use super::types::Recipe;
 use super::types::RecipeRun;
 use super::types::Refusal;
+use super::types::STEPS_MAX;
 use super::types::Verb;
 use super::types::is_nothing;
 use alu::types::Flags;
@@ -35,8 +38,8 @@ fn tells_all(verb: Verb) -> bool
 }
 
 // What is told of the flags behind the last line; with no line they are as they were.
-fn codes_after(lines: [Line; 32], count: usize, flags: Flags) -> Codes
-    requires { ⌜ count ≤ 32 ⌝ }
+fn codes_after(lines: [Line; LINES_MAX], count: usize, flags: Flags) -> Codes
+    requires { ⌜ count ≤ linesMax ⌝ }
     ensures { λ r. ⌜ r ≡ codesAfter (take count lines) flags ⌝ }
 {
     if count == 0 {
@@ -70,7 +73,7 @@ fn refused(refusal: Refusal, line: usize, state: State) -> RecipeRun
     }
 }
 
-// Translates a recipe and runs its listing to the end: no accepted recipe has more than 256 steps.
+// Translates a recipe and runs its listing to the end: none has more steps than the budget.
 pub fn run_recipe(recipe: Recipe, state: State) -> RecipeRun
     ensures { λ r. ⌜ r ≡ recipeRunOf recipe state ⌝ }
 {
@@ -81,7 +84,7 @@ pub fn run_recipe(recipe: Recipe, state: State) -> RecipeRun
         return refused(refusal, made.line, state);
     }
     let steps = made.steps;
-    let ran = run_array(steps, made.count, state, 0, 256);
+    let ran = run_array(steps, made.count, state, 0, STEPS_MAX);
     let after = ran.state;
     let d = after.d;
     let a = after.a;

@@ -4,10 +4,12 @@
 ghost use mathlib.Core.Path.{_≡_};
 ghost use Prim.Native.Nat.{_/_, _%_, _*_, _+_, _-_, _<_, _≤_};
 ghost use lib.ListN.{getD, take};
+ghost use Rattle.recipes.specs.Recipe.{linesMax};
 ghost use Rattle.recipes.specs.Listing.{one, two, shift, firstStep, otherStep, blank, blanks, stepsAt, highestFirst, lineSteps, listingOf, over, translateOf};
 ghost use Rattle.recipes.specs.Making.{refused, registerSteps, offsetOf, judgeOf, judgeLines, Layable, StepOfLine};
 use super::reader::LineRead;
 use super::reader::check_line;
+use super::types::LINES_MAX;
 use super::types::Line;
 use super::types::Listing;
 use super::types::Recipe;
@@ -20,6 +22,7 @@ use super::types::target;
 use alu::shift_rotate::ShiftOp;
 use alu::types::Size;
 use step::registers::D;
+use step::runs::SLOTS;
 use step::steps::Count;
 use step::steps::Form;
 use step::steps::OneOp;
@@ -188,8 +191,8 @@ pub(crate) fn refused(refusal: Refusal, line: usize) -> Translated
 }
 
 // The tests of the lines in turn, and the steps that they take together. Line k, from 0, is text line k + 2.
-fn judge_lines(width: u8, count: usize, lines: [Line; 32]) -> Translated
-    requires { ⌜ (0 < width) × ((width ≤ 4) × (count ≤ 32)) ⌝ }
+fn judge_lines(width: u8, count: usize, lines: [Line; LINES_MAX]) -> Translated
+    requires { ⌜ (0 < width) × ((width ≤ 4) × (count ≤ linesMax)) ⌝ }
     ensures { λ r. ⌜ r ≡ judgeLines width (take count lines) ⌝ }
 {
     let numbers = 8 / width;
@@ -224,19 +227,19 @@ fn judge(recipe: Recipe) -> Translated
     if !is_width(width) {
         return refused(Refusal::WidthLine, 1);
     }
-    if 32 < count {
+    if LINES_MAX < count {
         return refused(Refusal::TooManyLines, 0);
     }
     judge_lines(width, count, lines)
 }
 
 // The first `total` steps of the lines, and blank slots behind them.
-fn lay(width: u8, lines: [Line; 32], total: usize) -> [Step; 256]
+fn lay(width: u8, lines: [Line; LINES_MAX], total: usize) -> [Step; SLOTS]
     requires { ⌜ Layable width lines total ⌝ }
     ensures { λ r. ⌜ r ≡ over (take total (listingOf width lines)) blanks ⌝ }
 {
     let none = blank();
-    let mut steps = [none; 256];
+    let mut steps = [none; SLOTS];
     let mut k: usize = 0;
     let mut j: u8 = 0;
     let mut at: usize = 0;
@@ -254,7 +257,7 @@ fn lay(width: u8, lines: [Line; 32], total: usize) -> [Step; 256]
     steps
 }
 
-// Translates a recipe by value. An accepted recipe needs at most 256 steps, so that there is always room.
+// Translates a recipe by value. There are slots for the steps of any recipe (`blanks-fit` of proofs/Settling).
 pub fn translate_array(recipe: Recipe) -> Listing
     ensures { λ r. ⌜ r ≡ translateOf recipe blanks ⌝ }
 {

@@ -2,7 +2,20 @@
 ghost use mathlib.Core.Path.{_≡_};
 ghost use Rattle.recipes.specs.Recipe.{numberOf, isNothing, takesTwo, isCopy, target, isWidth};
 use alu::types::Flags;
+use step::runs::SLOTS;
 use step::steps::Step;
+
+// The most lines of a recipe.
+pub const LINES_MAX: usize = 32;
+
+// The most steps of a recipe's listing.
+pub const STEPS_MAX: u32 = 256;
+
+// What a program reads of a text: a longer one meets its refusal within it (`cut-reads` of proofs/Cut).
+pub const TEXT_MAX: usize = 1024;
+
+// Room for what is printed of any recipe (`answer-short` of proofs/Room).
+pub const PRINT_MAX: usize = 20480;
 
 pub enum Verb {
     Clear,
@@ -23,11 +36,11 @@ pub struct Line {
     pub b: u8,
 }
 
-// The first `count` of `lines` are the recipe's, at most 32; the reader makes the others `clear 0`.
+// The first `count` of `lines` are the recipe's; the reader makes the others `clear 0`.
 pub struct Recipe {
     pub width: u8,
     pub count: usize,
-    pub lines: [Line; 32],
+    pub lines: [Line; LINES_MAX],
 }
 
 // Why a text or a recipe is refused: document 01's numbers 4 to 9; `Nothing` is 0.
@@ -62,7 +75,7 @@ pub struct Listing {
     pub refusal: Refusal,
     pub line: usize,
     pub count: usize,
-    pub steps: [Step; 256],
+    pub steps: [Step; SLOTS],
 }
 
 // What is told of all five flags. After add, sub and neg they are known: those of the whole number. After any other line

@@ -1,9 +1,10 @@
 -- Document 01, "What each statement must exclude": two answers that satisfy the contract of a public function of this crate are equal, and so is all
 -- that stands behind the references that it was lent.
 --     determined       the functions that are lent nothing
---     OneExit          what is shown of a function that is lent something: at exit its contract says one equation, of the whole answer, the result
---                      together with what stands behind the references
---     same-exit        so two such answers are equal; `performed-parts`: and the whole answer of `perform_in` leaves out nothing
+--     OneExit          what is shown of a function that is lent something: at exit its contract says one equation, of the whole answer; and two whole
+--                      answers are equal only if the results are, and all that stands behind the references that may be written. What those are
+--                      the function's signature says (`Lasts`), so that a row can leave none out
+--     same-exit        so two answers that satisfy the contract are equal, and what they leave behind every such reference
 --     .. -determined   so each of them, by the contract that stands in its code. tools/contracts looks that none is left out
 -- Assumes nothing.
 use mathlib.Core.Path.{_≡_, refl, sym, ap, _∙_}
@@ -18,9 +19,10 @@ use ghost.Atoms.{Atoms}
 use contract.Monad.{Fun, fact}
 use contract.Lifetimes.{Lfts}
 use denote.Ref.{now}
-use denote.Triple.Entry.{Args}
+use denote.Triple.Entry.{Args, Res}
+use denote.Triple.Clauses.{Ended, Lasts, AtExit, atExit}
 use Rattle.alu.proofs.Determined.{Fixed, fixed, one-equation}
-use Rattle.step.specs.declared.registers.State.{State}
+use Rattle.step.specs.declared.steps.Step.{Step}
 use Rattle.step.specs.declared.steps.Performed.{Performed}
 use Rattle.step.specs.declared.lent.Told.{Told}
 use Rattle.step.specs.Perform.{performOf}
@@ -42,27 +44,39 @@ determined =
     fixed perform.Learnt (one-equation _) ∷
     fixed run-array.Learnt (one-equation _) ∷ []
 
--- `whole r e`: of the result r and the parameters e at exit
-pub record OneExit {M : Type 1} (𝓤 : URA M) {Result Exit Whole : Type 0} (whole : Result → Exit → Whole) (says : Result → Exit → SProp 𝓤) : Type 2 where
-  pub of : Whole
-  pub is : (r : Result) (e : Exit) → says r e ≡ fact 𝓤 (whole r e ≡ of)
+-- `whole r ws`: of the result r and of the last values ws behind all references that the function may write through
+module _ {M : Type 1} (𝓤 : URA M) (T : Ended) (κs : Lfts (T .signature .lifetimes)) (a : Args (T .signature) κs) {Whole : Type 0}
+    (whole : Res (T .signature) κs → Lasts T κs a → Whole)
+  where
+  pub record OneExit (says : Res (T .signature) κs → AtExit T κs → SProp 𝓤) : Type 2 where
+    pub of : Whole
+    pub is : (r : Res (T .signature) κs) (ws : Lasts T κs a) → says r (atExit T κs a ws) ≡ fact 𝓤 (whole r ws ≡ of)
+    pub all : (r r′ : Res (T .signature) κs) (ws ws′ : Lasts T κs a) → whole r ws ≡ whole r′ ws′ → (r ≡ r′) × (ws ≡ ws′)
 
-pub same-exit : {Whole : Type 0} (of : Whole) {one other : Whole} → one ≡ of → other ≡ of → one ≡ other
-same-exit of p q = p ∙ sym q
+  pub same-exit : {says : Res (T .signature) κs → AtExit T κs → SProp 𝓤} (o : OneExit says) (r r′ : Res (T .signature) κs) (ws ws′ : Lasts T κs a)
+      → whole r ws ≡ o .of → whole r′ ws′ ≡ o .of → (r ≡ r′) × (ws ≡ ws′)
+  same-exit o r r′ ws ws′ p q = o .all r r′ ws ws′ (p ∙ sym q)
 
-pub performed-parts : (r r′ : Told) (s s′ : State) → performed r s ≡ performed r′ s′ → (r ≡ r′) × (s ≡ s′)
-performed-parts r r′ s s′ e =
-    let told : Performed → Told = λ p. record { outcome = p .outcome; clocks = p .clocks } in (ap told e, ap (λ (p : Performed). p .state) e)
+abbrev toldIn : Performed → Told
+toldIn p = record { outcome = p .outcome; clocks = p .clocks }
 
 module _ {M : Type 1} (𝓤 : URA M) (H : Heap 𝓤) (A : Atoms 𝓤) (mem : Memory → SProp 𝓤) (go : Routine → Fun 𝓤) (κs : Lfts 1) where
-  pub perform-in-determined : (a : Args perform-in.signature κs) → OneExit 𝓤 (λ r e. performed r (now (e .0))) (perform-in.clauses 𝓤 H A mem go κs a .ensures tt)
-  perform-in-determined a = record { of = performOf (now (a .0)) (a .1 .0); is = λ r e. refl }
+  pub perform-in-determined : (a : Args perform-in.signature κs) → OneExit 𝓤 perform-in.ended κs a (λ r ws. performed r (ws .0)) (perform-in.clauses 𝓤 H A mem go κs a .ensures tt)
+  perform-in-determined a = record {
+    of = performOf (now (a .0)) (a .1 .0);
+    is = λ r ws. refl;
+    all = λ r r′ ws ws′ e. (ap toldIn e, ap (λ (p : Performed). (p .state, (tt, tt))) e);
+  }
 
-  pub run-determined : (a : Args run.signature κs) → OneExit 𝓤 (λ r e. r) (run.clauses 𝓤 H A mem go κs a .ensures tt)
-  run-determined a = record { of = runOf performOf (now (a .0)) (a .1 .0) (a .1 .1 .0) (a .1 .1 .1 .0); is = λ r e. refl }
+  pub run-determined : (a : Args run.signature κs) → OneExit 𝓤 run.ended κs a (λ r ws. r) (run.clauses 𝓤 H A mem go κs a .ensures tt)
+  run-determined a = record { of = runOf performOf (now (a .0)) (a .1 .0) (a .1 .1 .0) (a .1 .1 .1 .0); is = λ r ws. refl; all = λ r r′ ws ws′ e. (e, refl) }
 
-  pub fetch-determined : (a : Args fetch.signature κs) → OneExit 𝓤 (λ r e. r) (fetch.clauses 𝓤 H A mem go κs a .ensures tt)
-  fetch-determined a = record { of = getD (now (a .0)) (a .1 .0) (a .1 .1 .0); is = λ r e. refl }
+  pub fetch-determined : (a : Args fetch.signature κs) → OneExit 𝓤 fetch.ended κs a (λ r ws. r) (fetch.clauses 𝓤 H A mem go κs a .ensures tt)
+  fetch-determined a = record { of = getD (now (a .0)) (a .1 .0) (a .1 .1 .0); is = λ r ws. refl; all = λ r r′ ws ws′ e. (e, refl) }
 
-  pub store-determined : (a : Args store.signature κs) → OneExit 𝓤 (λ r e. now (e .0)) (store.clauses 𝓤 H A mem go κs a .ensures tt)
-  store-determined a = record { of = set (now (a .0)) (a .1 .0) (a .1 .1 .0); is = λ r e. refl }
+  pub store-determined : (a : Args store.signature κs) → OneExit 𝓤 store.ended κs a (λ r ws. ws .0) (store.clauses 𝓤 H A mem go κs a .ensures tt)
+  store-determined a = record {
+    of = set (now (a .0)) (a .1 .0) (a .1 .1 .0);
+    is = λ r ws. refl;
+    all = λ r r′ ws ws′ e. (refl, ap (λ (l : List Step). (l, (tt, (tt, tt)))) e);
+  }

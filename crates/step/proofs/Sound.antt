@@ -1,10 +1,10 @@
 -- What the ruling of a step means. A step that is sound is never refused by its operation (`never-refused`), so that no refused answer is ever taken
 -- for a result. A step is refused with document 01's number 3, 2 or 1, in that order, exactly where a test fails (`perform-number`). It traps with the
 -- class of the crate alu exactly where it is a sound CHK that doesn't pass (`perform-class`). A refused step changes nothing
--- (`perform-kept`). Assumes nothing.
+-- (`perform-kept`). A write at a size, over the size's bits (`merged-bits`). Assumes nothing.
 use mathlib.Core.Path.{_≡_, refl, ap, _∙_}
 use mathlib.Core.Bool.{Bool, true, false, cond, _&&_}
-use Prim.Native.Nat.{ℕ, _≤_, _%_, _<_}
+use Prim.Native.Nat.{ℕ, _≤_, _/_, _%_, _<_, _^_}
 use native.Mathlib.Nat.{mod-lt}
 use native.Mathlib.Omega.{arith}
 use borrow.Author.Tests.{le-ltb, leb-true}
@@ -19,6 +19,7 @@ use Rattle.alu.specs.declared.types.Check.the-variants.{Pass, Over, Short, Belo
 use Rattle.alu.specs.declared.shift_rotate.ShiftOp.{ShiftOp}
 use Rattle.alu.specs.declared.shift_rotate.ShiftOp.the-variants.{Asl, Asr, Lsl, Lsr, Rol, Ror, Roxl, Roxr}
 use Rattle.alu.specs.declared.bit_manip.BitOp.{BitOp}
+use Rattle.alu.specs.Bits.{bitsOf, low, join}
 use Rattle.alu.specs.Answers.{classOf as checkClass}
 use Rattle.alu.specs.Arith.{chkOf}
 use Rattle.alu.specs.Shifts.{shiftOf}
@@ -39,7 +40,7 @@ use Rattle.step.specs.declared.steps.Form.{Form}
 use Rattle.step.specs.declared.steps.Form.the-variants.{Two, Address, Quick, One, Shift, Bit, Chk}
 use Rattle.step.specs.declared.steps.Ruling.{Ruling}
 use Rattle.step.specs.declared.steps.Ruling.the-variants.{Sound, Faulty}
-use Rattle.step.specs.Registers.{dataOf, addressOf}
+use Rattle.step.specs.Registers.{dataOf, addressOf, mergedOf}
 use Rattle.step.specs.Perform.{numberOf, refusalOf, there, registerThere, countThere, within, countWithin, notByte, isWord, isLong, quickSize, oneSize, rulingOf}
 use Rattle.step.specs.Perform.{twoOf, onAddressOf, quickOf, quickAddressOf, oneOf, registerValue, countValue, outcomeOf, actOf, judged, performForm, refusedWith, trappedWith}
 use Rattle.step.proofs.Laws.{no}
@@ -277,3 +278,11 @@ never-refused s size (One op t) e = one-accepted op size (dataOf s t) (s .flags)
 never-refused s size (Shift op c t) e = shift-accepted op size (countValue s 64 c) (dataOf s t) (s .flags) (count-few s c (passed (countThere c && there (t .0)) true (countWithin 1 8 c) e .1))
 never-refused s size (Bit op c t) e = bit-accepted op size (countValue s 32 c) (dataOf s t) (s .flags) (passed (countThere c && there (t .0)) (isLong size) (countWithin 0 31 c) e .0)
 never-refused s size (Chk r t) e = chk-accepted size (dataOf s r) (dataOf s t) (s .flags) (passed (there (r .0) && there (t .0)) (isWord size) true e .0)
+
+-- ---- a write
+
+-- the low bits, as many as the size has, are the value's; those above are kept. A long has none above
+pub merged-bits : (size : Size) (old value : ℕ) → old < 2 ^ 32 → value < 2 ^ 32 → let n = bitsOf size in mergedOf size old value ≡ join n (low n value) (old / 2 ^ n)
+merged-bits Byte old value h l = refl
+merged-bits Word old value h l = refl
+merged-bits Long old value h l = omega arith

@@ -18,7 +18,7 @@ dataOf s r = getD (s .d) (r .0) 0
 abbrev pub addressOf : State → A → ℕ
 addressOf s r = getD (s .a) (r .0) 0
 
--- a write at a size: byte and word keep the register's upper bits, long writes all of it
+-- a write at a size: byte and word keep the register's upper bits, long writes all of it (`merged-bits` of proofs/Sound: one rule over the bits)
 abbrev pub mergedOf : Size → (old value : ℕ) → ℕ
 mergedOf Byte old value = join 8 (low 8 value) (old / 2 ^ 8)
 mergedOf Word old value = join 16 (low 16 value) (old / 2 ^ 16)

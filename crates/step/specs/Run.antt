@@ -13,6 +13,10 @@ use Rattle.step.specs.declared.runs.End.the-variants as End
 use Rattle.step.specs.declared.runs.Ran.{Ran}
 use Rattle.step.specs.Perform.{numberOf, classOf}
 
+-- the slots of a listing that stands in an array. (How many steps a recipe may have is another number: `stepsMax` of the crate recipes)
+abbrev pub arraySlots : ℕ
+arraySlots = 256
+
 -- what stands at a place of a listing: a step, its end, or nothing
 pub data Spot : Type 0 where
   here : Step → Spot
@@ -52,21 +56,10 @@ module _ (f : State → Step → Performed) (l : List Step) where
   runOf s p zero = met (spotOf l p) s p (λ k. ends End.Budget s p)
   runOf s p (suc b) = met (spotOf l p) s p (λ k. followed (f s k .outcome) (f s k) p (λ t q. runOf t q b))
 
--- document 01's refusal number of a run, the class of its trap, and the place of either; 0 where there is none
-abbrev pub endRefusedWith : End → ℕ
-endRefusedWith End.Finished = 0
-endRefusedWith End.Budget = 0
-endRefusedWith (End.Trapped trap p) = 0
-endRefusedWith (End.Refused fault p) = numberOf fault
-
-abbrev pub endTrappedWith : End → ℕ
-endTrappedWith End.Finished = 0
-endTrappedWith End.Budget = 0
-endTrappedWith (End.Trapped trap p) = classOf trap
-endTrappedWith (End.Refused fault p) = 0
-
-abbrev pub endPlace : End → ℕ
-endPlace End.Finished = 0
-endPlace End.Budget = 0
-endPlace (End.Trapped trap p) = p
-endPlace (End.Refused fault p) = p
+-- How a run ended, by numbers: which of the four ends it is, the class of its trap or document 01's refusal number, and the place of either; 0 where
+-- there is none. (0 to 3 for the four ends is our own numbering, document 01 has none)
+abbrev pub endNumbers : End → List ℕ
+endNumbers End.Finished = 0 ∷ 0 ∷ 0 ∷ []
+endNumbers End.Budget = 1 ∷ 0 ∷ 0 ∷ []
+endNumbers (End.Trapped trap p) = 2 ∷ classOf trap ∷ p ∷ []
+endNumbers (End.Refused fault p) = 3 ∷ numberOf fault ∷ p ∷ []

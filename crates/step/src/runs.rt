@@ -15,6 +15,9 @@ use super::steps::Trap;
 use super::steps::perform_on;
 use alu::types::Flags;
 
+// The slots of a listing that stands in an array.
+pub const SLOTS: usize = 256;
+
 // How a run ends; a trap and a refusal with their place.
 pub enum End {
     Finished,
@@ -161,11 +164,11 @@ pub(crate) fn ended(d: [u32; 8], a: [u32; 8], first: u32, on: Course) -> Ran
     }
 }
 
-// A run of a listing that stands in an array, in its first `count` steps; a count above 256 means all 256.
-pub fn run_array(listing: [Step; 256], count: usize, state: State, start: usize, budget: u32) -> Ran
+// A run of a listing that stands in an array, in its first `count` steps; a count above `SLOTS` means all of them.
+pub fn run_array(listing: [Step; SLOTS], count: usize, state: State, start: usize, budget: u32) -> Ran
     ensures { λ r. ⌜ r ≡ runOf performOf (take count listing) state start budget ⌝ }
 {
-    let len = lesser(count, 256);
+    let len = lesser(count, SLOTS);
     let mut d = state.d;
     let mut a = state.a;
     let flags = state.flags;

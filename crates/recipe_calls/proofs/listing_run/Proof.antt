@@ -11,7 +11,7 @@ returns c =
     rw (
       c .before .long .ensures,
       f .ccr .ensures,
-      f .before .before .before .before .before .end-words .ensures,
+      f .before .before .before .before .before .end-numbers .ensures,
       end-told,
       r .run-array .ensures,
       r .before .steps-of .ensures,

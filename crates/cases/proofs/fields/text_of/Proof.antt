@@ -4,9 +4,10 @@ use mathlib.Core.Path.{_≡_}
 use lib.ListN as list
 use Rattle.cases.proofs.fields.text_of.Statement.{statement}
 use Rattle.cases.proofs.fields.text_of.Tie as tie
+use Rattle.recipes.specs.Printer.{printMax}
 
 abbrev Inv-loop : tie.InvT-loop
-Inv-loop row tab out₀ length₀ state₀ at₀ out length state at = (length ≤ 20480) × (list.length out ≡ list.length out₀)
+Inv-loop row tab out₀ length₀ state₀ at₀ out length state at = (length ≤ printMax) × (list.length out ≡ list.length out₀)
 
 abbrev μ-loop : tie.MeasureT-loop
 μ-loop row tab out₀ length₀ state₀ at₀ out length state at = list.length row - at

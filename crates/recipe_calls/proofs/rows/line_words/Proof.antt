@@ -7,17 +7,17 @@ use Rattle.recipe_calls.specs.Words.{lineWord}
 use Rattle.recipe_calls.proofs.Turns.{turned}
 use lib.Seq.{take-all}
 use Rattle.recipes.proofs.Writing.{mapped}
-use Rattle.recipes.specs.Recipe.{unused}
+use Rattle.recipes.specs.Recipe.{linesMax, unused}
 use borrow.Author.Needs.{needs}
 use native.Mathlib.Omega.{arith}
 use Rattle.recipe_calls.proofs.rows.line_words.Statement.{statement}
 use Rattle.recipe_calls.proofs.rows.line_words.Tie as tie
 
 abbrev Inv-loop : tie.InvT-loop
-Inv-loop lines words₀ i₀ words i = (i ≤ 32) × (length lines ≡ 32) × (length words ≡ 32) × (take i words ≡ map lineWord (take i lines))
+Inv-loop lines words₀ i₀ words i = (i ≤ linesMax) × (length lines ≡ linesMax) × (length words ≡ linesMax) × (take i words ≡ map lineWord (take i lines))
 
 abbrev μ-loop : tie.MeasureT-loop
-μ-loop lines words₀ i₀ words i = 32 - i
+μ-loop lines words₀ i₀ words i = linesMax - i
 
 loop-holds : tie.Need-loop-holds Inv-loop μ-loop
 loop-holds c = (search needs, search mapped, refl, refl)
@@ -34,7 +34,7 @@ loop-again c =
 returns : tie.Need-returns Inv-loop μ-loop
 returns c =
     let l = c .before .loop in
-    let e : l .i ≡ 32 = omega arith in
+    let e : l .i ≡ linesMax = omega arith in
     rw (take-all (l .i) (l .words) (omega arith), take-all (l .i) (c .before .before .args .t1) (omega arith)) at (l .inv .3)
 
 pub line-words-spec : {M : Type 1} → statement M

@@ -11,12 +11,13 @@ use borrow.Author.Needs.{needs}
 use native.Mathlib.Omega.{arith}
 use Rattle.recipe_calls.proofs.rows.lines_of.Statement.{statement}
 use Rattle.recipe_calls.proofs.rows.lines_of.Tie as tie
+use Rattle.recipes.specs.Recipe.{linesMax}
 
 abbrev Inv-loop : tie.InvT-loop
-Inv-loop words lines₀ i₀ lines i = (i ≤ 32) × (length words ≡ 32) × (length lines ≡ 32) × (take i lines ≡ map lineOf (take i words))
+Inv-loop words lines₀ i₀ lines i = (i ≤ linesMax) × (length words ≡ linesMax) × (length lines ≡ linesMax) × (take i lines ≡ map lineOf (take i words))
 
 abbrev μ-loop : tie.MeasureT-loop
-μ-loop words lines₀ i₀ lines i = 32 - i
+μ-loop words lines₀ i₀ lines i = linesMax - i
 
 loop-holds : tie.Need-loop-holds Inv-loop μ-loop
 loop-holds c = (search needs, search mapped, refl, refl)
@@ -33,7 +34,7 @@ loop-again c =
 returns : tie.Need-returns Inv-loop μ-loop
 returns c =
     let l = c .before .loop in
-    let e : l .i ≡ 32 = omega arith in
+    let e : l .i ≡ linesMax = omega arith in
     rw (take-all (l .i) (l .lines) (omega arith), take-all (l .i) (c .before .before .args .t1) (omega arith)) at (l .inv .3)
 
 pub lines-of-spec : {M : Type 1} → statement M

@@ -10,9 +10,10 @@ use Rattle.recipe_calls.proofs.Turns.{put, taken, nop}
 use borrow.Author.Needs.{needs}
 use Rattle.recipe_calls.proofs.rows.put_steps.Statement.{statement}
 use Rattle.recipe_calls.proofs.rows.put_steps.Tie as tie
+use Rattle.step.specs.Run.{arraySlots}
 
 abbrev Inv-loop : tie.InvT-loop
-Inv-loop count listing₀ steps many i₀ listing i = (i ≤ many) × (length steps ≡ 256) × (length listing ≡ length listing₀) × (listing ≡ over (map stepWord (take i steps)) listing₀)
+Inv-loop count listing₀ steps many i₀ listing i = (i ≤ many) × (length steps ≡ arraySlots) × (length listing ≡ length listing₀) × (listing ≡ over (map stepWord (take i steps)) listing₀)
 
 abbrev μ-loop : tie.MeasureT-loop
 μ-loop count listing₀ steps many i₀ listing i = many - i
@@ -41,7 +42,7 @@ returns c =
     let n = c .before .before in
     let a = n .before .before .args in
     let e : l .i ≡ n .lesser .result = search needs in
-    rw (taken (a .t1) (a .count) 256 (l .i) (l .inv .1) (rw (← n .lesser .ensures) e)) at (l .inv .3)
+    rw (taken (a .t1) (a .count) arraySlots (l .i) (l .inv .1) (rw (← n .lesser .ensures) e)) at (l .inv .3)
 
 pub put-steps-spec : {M : Type 1} → statement M
 put-steps-spec =

@@ -9,12 +9,13 @@ use Rattle.recipe_calls.proofs.Naming.{said-other, said-six}
 use borrow.Author.Needs.{needs}
 use Rattle.recipe_calls.proofs.rows.said.Statement.{statement}
 use Rattle.recipe_calls.proofs.rows.said.Tie as tie
+use Rattle.recipes.specs.Recipe.{linesMax}
 
 returns-2 : tie.Need-returns-2
 returns-2 c =
     let i = c .before .before in
     let a = i .before .args in
-    let size : length (a .t1) ≡ 32 = search mapped in
+    let size : length (a .t1) ≡ linesMax = search mapped in
     let some : length (a .t1) ≤ c .before .word-at .result = search needs in
     said-six (a .t1) (a .number) (a .line) true (i .if1 .left) (c .before .word-at .ensures)
     (sym (ap namesVerb (List·getD-eq-default (a .t1) 0 some)))

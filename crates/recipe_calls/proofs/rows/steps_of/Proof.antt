@@ -8,9 +8,10 @@ use Rattle.recipe_calls.proofs.Turns.{turned, filled}
 use borrow.Author.Needs.{needs}
 use Rattle.recipe_calls.proofs.rows.steps_of.Statement.{statement}
 use Rattle.recipe_calls.proofs.rows.steps_of.Tie as tie
+use Rattle.step.specs.Run.{arraySlots}
 
 abbrev Inv-loop : tie.InvT-loop
-Inv-loop listing steps₀ count i₀ steps i = (i ≤ count) × (length steps ≡ 256) × (take i steps ≡ map stepOf (take i listing))
+Inv-loop listing steps₀ count i₀ steps i = (i ≤ count) × (length steps ≡ arraySlots) × (take i steps ≡ map stepOf (take i listing))
 
 abbrev μ-loop : tie.MeasureT-loop
 μ-loop listing steps₀ count i₀ steps i = count - i
@@ -32,7 +33,7 @@ returns c =
     let l = c .before .loop in
     let n = c .before .before in
     let e : l .i ≡ n .lesser .result = search needs in
-    filled stepOf (l .steps) (n .before .before .before .args .listing .now) (l .i) 256 (l .inv .1) (rw (← n .lesser .ensures) e) (l .inv .2)
+    filled stepOf (l .steps) (n .before .before .before .args .listing .now) (l .i) arraySlots (l .inv .1) (rw (← n .lesser .ensures) e) (l .inv .2)
 
 pub steps-of-spec : {M : Type 1} → statement M
 steps-of-spec =

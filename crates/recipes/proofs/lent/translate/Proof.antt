@@ -55,12 +55,13 @@ use denote.Triple.Table.{entered, cited}
 use denote.Triple.Walked.{says, Stays, stay-slice, stay-none, walkOf, AllGo, goes-slice, goes-none, Walks, ends-at, walked, walk-meets}
 use denote.Exit.{yes}
 use Rattle.step.specs.declared.steps.Step.{Step}
+use Rattle.step.specs.Run.{arraySlots}
 use Rattle.step.proofs.steps.Step as T
 use Rattle.step.proofs.steps.Step.Laws as T′
 use Rattle.recipes.specs.declared.types.Recipe.{Recipe}
 use Rattle.recipes.specs.declared.types.Listing.{Listing}
 use Rattle.recipes.specs.declared.types.Translated.{Translated}
-use Rattle.recipes.specs.Listing.{translateOf, translated, blank, blanks}
+use Rattle.recipes.specs.Listing.{stepsMax, translateOf, translated, blank, blanks}
 use Rattle.recipes.specs.Making.{settledOf}
 use Rattle.recipes.proofs.Settling.{copied, translate-lent, blanks-count, settled-room, settled-count}
 use Rattle.recipes.proofs.types.Recipe as P
@@ -83,12 +84,12 @@ use Rattle.recipes.proofs.lent.translate.Statement as stated
 use Rattle.recipes.proofs.lent.translate.Code as code
 use Rattle.recipes.proofs.lent.translate.Code.Mir as mir
 
--- an array of 256 steps
+-- an array of steps
 abbrev Arr : RattleType
-Arr = Array T.the-row 256
+Arr = Array T.the-row arraySlots
 
 abbrev array : Ty
-array = tyArray T′.mir 256
+array = tyArray T′.mir arraySlots
 
 abbrev stayed : Stays (translate.ended .signature .params) (translate.ended .kept)
 stayed = (stay-none (λ _. P.the-row) yes, (stay-slice (0 ∷ []) tt (plain (λ _. T.the-row)), tt))
@@ -135,7 +136,7 @@ each-step [] (u ∷ us) s = absurd s
 each-step (z ∷ zs) [] s = absurd s
 each-step (z ∷ zs) (u ∷ us) s = (s .0, each-step zs us (s .1))
 
-field-is : (zs : List Step) → Is (Array (T.the-field .row) 256) (tuples zs) (f-val zs ∷ []) → Is Arr zs (a-val zs ∷ [])
+field-is : (zs : List Step) → Is (Array (T.the-field .row) arraySlots) (tuples zs) (f-val zs ∷ []) → Is Arr zs (a-val zs ∷ [])
 field-is zs p = (p .0, ((ap (λ (v : Val). v ∷ []) (sym (field-val zs)) ∙ p .1 .0 .0, sym (length-map zs (T.the-type .to)) ∙ p .1 .0 .1), each-step zs (p .0) (p .1 .1)))
 
 -- the bytes that stand before it in the listing, and its cell within the listing's
@@ -156,17 +157,17 @@ module _ {M : Type 1} (𝓤 : URA M) (H : Heap 𝓤) (A : Atoms 𝓤) (W : Given
 module _ {M : Type 1} (𝓤 : URA M) (H : Heap 𝓤) (A : Atoms 𝓤) (W : Given 𝓤 H A) (zs : List Step) (l : ℕ) (pz : Is Arr zs (a-val zs ∷ [])) where
   lies : ent 𝓤 (H .at fullShare array l 0 (a-val zs)) (sem 𝓤 H A (row T.the-row fullShare zs l 0))
   lies =
-      qed W (‵ (fat fullShare array l 0 (a-val zs)) ∷ []) ∵ owned ! Arr (Is Arr) (array-makes 𝓤 H A W T.the-row ((LL.makes T.the-type T′.the-plain) 𝓤 H A) 256) zs _ pz $ move ! (1 ∷ 0 ∷ []) $
+      qed W (‵ (fat fullShare array l 0 (a-val zs)) ∷ []) ∵ owned ! Arr (Is Arr) (array-makes 𝓤 H A W T.the-row ((LL.makes T.the-type T′.the-plain) 𝓤 H A) arraySlots) zs _ pz $ move ! (1 ∷ 0 ∷ []) $
       use2 W (‵ (partAt Arr fullShare zs l 0)) (part-in 𝓤 H A W Arr refl fullShare zs l 0 (a-val zs)) $
-      use1 W (‵ (arr-parts (shares T.the-row) 256 .part fullShare zs l 0)) (array-apart 𝓤 H A W T.the-row fullShare tt 256 zs l 0) $ fsplit ! $ drops ! $ done !
+      use1 W (‵ (arr-parts (shares T.the-row) arraySlots .part fullShare zs l 0)) (array-apart 𝓤 H A W T.the-row fullShare tt arraySlots zs l 0) $ fsplit ! $ drops ! $ done !
 
   stands : ent 𝓤 (sem 𝓤 H A (row T.the-row fullShare zs l 0)) (H .at fullShare array l 0 (a-val zs))
   stands =
-      qed W (‵ (row T.the-row fullShare zs l 0) ∷ []) ∵ feqI ! ℕ (length zs) 256 (pz .1 .0 .1) $ fjoin ! $
-      use1 W (‵ (partAt Arr fullShare zs l 0)) (array-whole 𝓤 H A W T.the-row fullShare 256 zs l 0) $
+      qed W (‵ (row T.the-row fullShare zs l 0) ∷ []) ∵ feqI ! ℕ (length zs) arraySlots (pz .1 .0 .1) $ fjoin ! $
+      use1 W (‵ (partAt Arr fullShare zs l 0)) (array-whole 𝓤 H A W T.the-row fullShare arraySlots zs l 0) $
       use1 W (some (λ (v : Val). ‵ (fat fullShare array l 0 v) ⊛ ‵ (Arr .own zs (v ∷ [])))) (part-out 𝓤 H A W Arr refl fullShare zs l 0) $ pick ! (λ v. split ! $ move ! (1 ∷ []) $
       peeks ! Arr (Is Arr) (shows 𝓤 H A Arr) zs (v ∷ []) (λ is. drops ! $
-      rewrite ! 0 (λ (u : Val). ‵ (fat fullShare array l 0 u)) (ap only (array-tells T.the-row t-vals (LL.tells T.the-type T′.the-laws) 256 zs (v ∷ []) is)) refl $ done !))
+      rewrite ! 0 (λ (u : Val). ‵ (fat fullShare array l 0 u)) (ap only (array-tells T.the-row t-vals (LL.tells T.the-type T′.the-laws) arraySlots zs (v ∷ []) is)) refl $ done !))
 
 -- what follows the first statement of a sequence
 abbrev after-first : Body → Body
@@ -311,11 +312,11 @@ module _ {M : Type 1} (𝓤 : URA M) (H : Heap 𝓤) (A : Atoms 𝓤) (W : Given
       pz : Is Arr zs (a-val zs ∷ [])
       pz = field-is zs (LL.owed L.the-type L′.the-laws made _ pm .1 .1 .1 .0)
 
-      zs-256 : length zs ≡ 256
-      zs-256 = pz .1 .0 .1
+      zs-all : length zs ≡ arraySlots
+      zs-all = pz .1 .0 .1
 
       typed-z : Holds (hasTy array (a-val zs)) × WT (a-val zs)
-      typed-z = array-lawful 𝓤 H A W T.the-row (LL.lawful T.the-type T′.the-laws 𝓤 H A W) 256 .typed zs _ pz .0
+      typed-z = array-lawful 𝓤 H A W T.the-row (LL.lawful T.the-type T′.the-laws 𝓤 H A W) arraySlots .typed zs _ pz .0
 
       module _ (told : Translated) (et : told ≡ settledOf made (length ys)) (pt : Is O.the-row told (o-val told ∷ [])) where
         abbrev n : ℕ
@@ -324,14 +325,14 @@ module _ {M : Type 1} (𝓤 : URA M) (H : Heap 𝓤) (A : Atoms 𝓤) (W : Given
         n-ys : n ≤ length ys
         n-ys = subst (λ (t : Translated). t .count ≤ length ys) (sym et) (settled-room made (length ys))
 
-        made-256 : made .count ≤ 256
-        made-256 = subst (λ (m : Listing). m .count ≤ 256) (sym em) (blanks-count r)
+        made-few : made .count ≤ stepsMax
+        made-few = subst (λ (m : Listing). m .count ≤ stepsMax) (sym em) (blanks-count r)
 
         n-made : n ≤ made .count
         n-made = subst (λ (t : Translated). t .count ≤ made .count) (sym et) (settled-count made (length ys))
 
         n-zs : n ≤ length zs
-        n-zs = omega (arith, n-made, made-256, zs-256)
+        n-zs = omega (arith, n-made, made-few, zs-all)
 
         -- what is told, and the slots after n turns, are the translation
         comes : translated told (lst ys zs n) ≡ translateOf r ys

@@ -10,16 +10,17 @@ use Rattle.recipes.proofs.Writing.{mapped}
 use Rattle.recipes.proofs.Printing.{clocks-next}
 use Rattle.recipes.proofs.printer.clocks.Statement.{statement}
 use Rattle.recipes.proofs.printer.clocks.Tie as tie
+use Rattle.step.specs.Run.{arraySlots}
 
 abbrev Inv-loop : tie.InvT-loop
-Inv-loop count steps sum₀ k₀ sum k = (k ≤ 256) × (k ≤ count) × (length steps ≡ 256) × (sum ≡ clocksOf (take k steps)) × (sum ≤ k * 2 ^ 32)
+Inv-loop count steps sum₀ k₀ sum k = (k ≤ arraySlots) × (k ≤ count) × (length steps ≡ arraySlots) × (sum ≡ clocksOf (take k steps)) × (sum ≤ k * 2 ^ 32)
 
 abbrev μ-loop : tie.MeasureT-loop
-μ-loop count steps sum₀ k₀ sum k = 256 - k
+μ-loop count steps sum₀ k₀ sum k = arraySlots - k
 
 loop-holds : tie.Need-loop-holds Inv-loop μ-loop
 unfolding clocksOf
-loop-holds c = let h : length (c .args .t1) ≡ 256 = search mapped in (search needs, search needs, h, refl, search needs)
+loop-holds c = let h : length (c .args .t1) ≡ arraySlots = search mapped in (search needs, search needs, h, refl, search needs)
 
 returns : tie.Need-returns Inv-loop μ-loop
 returns c = let l = c .before .before .loop in let e : l .k ≡ c .before .before .before .args .count = omega arith in rw e at (l .inv .3)

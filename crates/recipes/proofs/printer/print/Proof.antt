@@ -8,20 +8,21 @@ use Rattle.recipes.proofs.Writing.{mapped, then, as-one}
 use Rattle.recipes.proofs.Printing.{take-many}
 use Rattle.recipes.proofs.printer.print.Statement.{statement}
 use Rattle.recipes.proofs.printer.print.Tie as tie
+use Rattle.step.specs.Run.{arraySlots}
 
 returns : tie.Need-returns
 unfolding listingText
 returns c =
     let k = c .before .before .before .before .before .before .before .before .before .before .before .before .before .before .before .before .before .before .before .before .before .before in
     let a = k .before .before .before .args in
-    let long : length (a .steps) ≡ 256 = search mapped in
+    let long : length (a .steps) ≡ arraySlots = search mapped in
     let e = c .before .before in
     let n = e .before .before .before .before in
     let w = n .before .before .before .before in
     let s = w .before .before .before .before .before in
     let h = s .before .before .before .before in
     let end = then (s .put-steps .ensures) (then (w .put-bytes .ensures) (then (n .put-number .ensures) (e .put-byte .ensures))) in
-    rw (← k .clocks .ensures, sym (k .before .lesser .ensures ∙ take-many (a .steps) (a .count) 256 long))
+    rw (← k .clocks .ensures, sym (k .before .lesser .ensures ∙ take-many (a .steps) (a .count) arraySlots long))
     (as-one (simp append-assoc at (then (h .put-head .ensures) end)))
 
 pub print-spec : {M : Type 1} → statement M

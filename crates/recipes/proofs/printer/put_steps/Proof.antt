@@ -11,17 +11,18 @@ use Rattle.recipes.proofs.Writing.{mapped, wrote-none, wrote-length, th
 use Rattle.recipes.proofs.Printing.{steps-next}
 use Rattle.recipes.proofs.printer.put_steps.Statement.{statement}
 use Rattle.recipes.proofs.printer.put_steps.Tie as tie
+use Rattle.step.specs.Run.{arraySlots}
 
 abbrev Inv-loop : tie.InvT-loop
 Inv-loop out₀ at count steps next₀ k₀ out next k =
-    (k ≤ 256) × (k ≤ count) × (length steps ≡ 256) × Wrote out₀ at (stepsText 0 (take k steps)) out next
+    (k ≤ arraySlots) × (k ≤ count) × (length steps ≡ arraySlots) × Wrote out₀ at (stepsText 0 (take k steps)) out next
 
 abbrev μ-loop : tie.MeasureT-loop
-μ-loop out₀ at count steps next₀ k₀ out next k = 256 - k
+μ-loop out₀ at count steps next₀ k₀ out next k = arraySlots - k
 
 loop-holds : tie.Need-loop-holds Inv-loop μ-loop
 unfolding stepsText
-loop-holds c = let h : length (c .before .args .t3) ≡ 256 = search mapped in (search needs, search needs, h, wrote-none _ _)
+loop-holds c = let h : length (c .before .args .t3) ≡ arraySlots = search mapped in (search needs, search needs, h, wrote-none _ _)
 
 same-length : tie.Need-same-length Inv-loop μ-loop
 same-length c = wrote-length (c .before .before .loop .inv .3)

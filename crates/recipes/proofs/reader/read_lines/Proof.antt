@@ -10,6 +10,7 @@ use Rattle.recipes.specs.declared.types.Line.{Line}
 use Rattle.recipes.specs.Reader.{padded, orSlip, linesOf}
 use Rattle.recipes.specs.Text.{before, after}
 use Rattle.recipes.specs.Making.{from}
+use Rattle.recipes.specs.Recipe.{linesMax}
 use Rattle.recipes.proofs.Lines.{lines-many, lines-cut, lines-next, lines-done, padded-more}
 use Rattle.recipes.proofs.reader.read_lines.Statement.{statement}
 use Rattle.recipes.proofs.reader.read_lines.Tie as tie
@@ -18,7 +19,7 @@ use Rattle.recipes.proofs.reader.read_lines.Tie as tie
 record SoFar (width : ℕ) (text : List ℕ) (lines : List Line) (count : ℕ) (left : List ℕ) : Type 0 where
   ls : List Line
   many : count ≡ length ls
-  within : count ≤ 32
+  within : count ≤ linesMax
   short : length left ≤ length text
   stored : lines ≡ padded ls
   rest : linesOf width [] (before 10 text) (after 10 text) ≡ linesOf width ls (before 10 left) (after 10 left)
@@ -30,7 +31,7 @@ abbrev μ-loop : tie.MeasureT-loop
 μ-loop width text numbers lines₀ count₀ left₀ lines count left = length left
 
 -- past the tests on the count
-room : (c : tie.Else1 Inv-loop μ-loop) → length (c .before .before .loop .inv .ls) < 32
+room : (c : tie.Else1 Inv-loop μ-loop) → length (c .before .before .loop .inv .ls) < linesMax
 room c =
     let s = c .before .before .loop .inv in
     let m = s .many in
@@ -57,7 +58,7 @@ loop-holds c = record { ls = []; many = refl; within = search needs; short = sea
 returns : tie.Need-returns Inv-loop μ-loop
 returns c =
     let s = c .before .before .before .loop .inv in
-    let e : length (s .ls) ≡ 32 = sym (s .many) ∙ c .before .if1 .taken in
+    let e : length (s .ls) ≡ linesMax = sym (s .many) ∙ c .before .if1 .taken in
     rw (s .rest, lines-many _ _ _ (c .before .before .loop-test .taken) e, ← s .many) (c .refused .ensures)
 
 returns-2 : tie.Need-returns-2 Inv-loop μ-loop

@@ -8,16 +8,17 @@ use Rattle.recipes.proofs.Writing.{mapped}
 use Rattle.recipes.proofs.Judging.{Passed, passed-none, passed-slip, passed-more, passed-all}
 use Rattle.recipes.proofs.translator.judge_lines.Statement.{statement}
 use Rattle.recipes.proofs.translator.judge_lines.Tie as tie
+use Rattle.recipes.specs.Recipe.{linesMax}
 
 abbrev Inv-loop : tie.InvT-loop
-Inv-loop width count lines numbers steps₀ k₀ steps k = (k ≤ 32) × Passed width count lines steps k
+Inv-loop width count lines numbers steps₀ k₀ steps k = (k ≤ linesMax) × Passed width count lines steps k
 
 abbrev μ-loop : tie.MeasureT-loop
 μ-loop width count lines numbers steps₀ k₀ steps k = count - k
 
 loop-holds : tie.Need-loop-holds Inv-loop μ-loop
 loop-holds c =
-    let h : length (c .args .t3) ≡ 32 = search mapped in
+    let h : length (c .args .t3) ≡ linesMax = search mapped in
     let m = c .pre .1 .1 in
     (search needs, passed-none (c .args .width) (c .args .count) (c .args .t3) (omega arith))
 

@@ -8,9 +8,11 @@ use Rattle.recipes.proofs.Writing.{mapped}
 use Rattle.recipes.proofs.Laying.{Laid, laid-none, line-there, spot-there, step-small, laid-step, laid-line}
 use Rattle.recipes.proofs.translator.lay.Statement.{statement}
 use Rattle.recipes.proofs.translator.lay.Tie as tie
+use Rattle.step.specs.Run.{arraySlots}
+use Rattle.recipes.specs.Recipe.{linesMax}
 
 abbrev Inv-loop : tie.InvT-loop
-Inv-loop width total lines steps₀ k₀ j₀ at₀ steps k j at = (length lines ≡ 32) × Laid width total lines steps k j at
+Inv-loop width total lines steps₀ k₀ j₀ at₀ steps k j at = (length lines ≡ linesMax) × Laid width total lines steps k j at
 
 abbrev μ-loop : tie.MeasureT-loop
 μ-loop width total lines steps₀ k₀ j₀ at₀ steps k j at = total - at
@@ -18,11 +20,11 @@ abbrev μ-loop : tie.MeasureT-loop
 loop-holds : tie.Need-loop-holds Inv-loop μ-loop
 loop-holds c =
     let s = c .before in
-    let h : length (s .args .t2) ≡ 32 = search mapped in
+    let h : length (s .args .t2) ≡ linesMax = search mapped in
     (h, rw (c .blank .ensures) (laid-none (s .args .width) (s .args .total) (s .args .t2) (s .pre)))
 
 -- in a turn: the line, and what it needs
-line-in : (c : tie.In-loop Inv-loop μ-loop) → c .before .loop .k < 32
+line-in : (c : tie.In-loop Inv-loop μ-loop) → c .before .loop .k < linesMax
 line-in c = let l = c .before .loop in let h = line-there _ _ _ _ _ _ _ (l .inv .1) (c .loop-test .taken) in omega (arith, l .inv .0, h)
 
 mul-line : tie.Need-mul-line Inv-loop μ-loop
@@ -35,7 +37,7 @@ line-step-requires : tie.Need-line-step-requires Inv-loop μ-loop
 line-step-requires c κs = spot-there _ _ _ _ _ _ _ (c .before .before .loop .inv .1) (c .before .loop-test .taken)
 
 -- the slot
-slot-in : (c : tie.After-line-step Inv-loop μ-loop) → c .before .before .before .loop .at < 256
+slot-in : (c : tie.After-line-step Inv-loop μ-loop) → c .before .before .before .loop .at < arraySlots
 slot-in c = let l = c .before .before .before .loop in let h = l .inv .1 .ready .within in omega (arith, h, c .before .before .loop-test .taken)
 
 mul-steps : tie.Need-mul-steps Inv-loop μ-loop

@@ -6,9 +6,10 @@ use Rattle.recipes.proofs.Writing.{mapped}
 use Rattle.recipes.proofs.Settling.{ready, laid}
 use Rattle.recipes.proofs.translator.translate_array.Statement.{statement}
 use Rattle.recipes.proofs.translator.translate_array.Tie as tie
+use Rattle.recipes.specs.Recipe.{linesMax}
 
 lay-requires : tie.Need-lay-requires
-lay-requires c κs = let s = c .before .before in let h : length (s .args .recipe .lines) ≡ 32 = search mapped in rw (c .before .judge .ensures) (ready (s .args .recipe) h)
+lay-requires c κs = let s = c .before .before in let h : length (s .args .recipe .lines) ≡ linesMax = search mapped in rw (c .before .judge .ensures) (ready (s .args .recipe) h)
 
 returns : tie.Need-returns
 returns c = let j = c .before .before in rw (c .lay .ensures, j .judge .ensures) (laid (j .before .args .recipe))

@@ -5,6 +5,7 @@ use Prim.Native.Nat.{_≤_}
 use lib.ListN.{length, take}
 use Rattle.step.specs.Perform.{performOf}
 use Rattle.step.specs.Course.{Ready}
+use Rattle.step.specs.Run.{arraySlots}
 use Rattle.step.proofs.Running.{answerOf, leftOf, turn-less, lesser-le, turned-in, ended-in}
 use borrow.Author.Needs.{needs}
 use Rattle.step.proofs.runs.run_array.Statement.{statement}
@@ -24,11 +25,11 @@ goes c = sym (c .before .loop .inv .0) ∙ c .loop-test .taken
 ready : (c : tie.In-loop Inv-loop μ-loop) → Ready (c .before .before .before .before .before .before .lesser .result) (c .before .loop .on)
 ready c = c .before .loop .inv .1 .1 .1 (goes c)
 
-few : (c : tie.In-loop Inv-loop μ-loop) → c .before .before .before .before .before .before .lesser .result ≤ 256
-few c = omega (arith, lesser-le (c .before .before .before .before .before .before .before .args .count) 256 .1, c .before .before .before .before .before .before .lesser .ensures)
+few : (c : tie.In-loop Inv-loop μ-loop) → c .before .before .before .before .before .before .lesser .result ≤ arraySlots
+few c = omega (arith, lesser-le (c .before .before .before .before .before .before .before .args .count) arraySlots .1, c .before .before .before .before .before .before .lesser .ensures)
 
 -- said here, since omega looks at no more than 128 records of a longer way
-whole : (c : tie.In-loop Inv-loop μ-loop) → length (c .before .before .before .before .before .before .before .args .t1) ≡ 256
+whole : (c : tie.In-loop Inv-loop μ-loop) → length (c .before .before .before .before .before .before .before .args .t1) ≡ arraySlots
 whole c = omega arith
 
 loop-holds : tie.Need-loop-holds Inv-loop μ-loop
@@ -53,7 +54,7 @@ loop-again c =
     let on = c .before .before .before .before .before .loop .on in (
       refl,
       (
-        turned-in performOf (start .t1) (start .count) 256 _ (c .before .before .before .before .before .before .begin .result .left) (whole t) (c .before .before .before .before .before .before .before .before .before .before .lesser .ensures) _ _ _ _ on (c .advance .result) (goes t) (t .before .loop .inv .1 .1 .0) (ready t) (c .advance .ensures .0) ∙ t .before .loop .inv .1 .0,
+        turned-in performOf (start .t1) (start .count) arraySlots _ (c .before .before .before .before .before .before .begin .result .left) (whole t) (c .before .before .before .before .before .before .before .before .before .before .lesser .ensures) _ _ _ _ on (c .advance .result) (goes t) (t .before .loop .inv .1 .1 .0) (ready t) (c .advance .ensures .0) ∙ t .before .loop .inv .1 .0,
         (omega (arith, c .advance .ensures .1 .0, t .before .loop .inv .1 .1 .0), c .advance .ensures .1 .1),
       ),
     )
@@ -65,7 +66,7 @@ returns : tie.Need-returns Inv-loop μ-loop
 returns c =
     let start = c .before .before .before .before .before .before .before .before .args in
     let at = c .before .before .loop in
-    c .ended .ensures ∙ ended-in performOf (start .t1) (start .count) 256 _ _ (omega arith) (c .before .before .before .before .before .before .before .lesser .ensures) (start .state) (start .start) (start .budget) _ _ (at .on) _ (c .before .before .before .begin .ensures .0) refl (at .inv .1 .0) (sym (at .inv .0) ∙ c .before .loop-test .left)
+    c .ended .ensures ∙ ended-in performOf (start .t1) (start .count) arraySlots _ _ (omega arith) (c .before .before .before .before .before .before .before .lesser .ensures) (start .state) (start .start) (start .budget) _ _ (at .on) _ (c .before .before .before .begin .ensures .0) refl (at .inv .1 .0) (sym (at .inv .0) ∙ c .before .loop-test .left)
 
 pub run-array-spec : {M : Type 1} → statement M
 run-array-spec =

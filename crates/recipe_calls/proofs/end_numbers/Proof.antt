@@ -1,11 +1,11 @@
--- `end_words` meets its contract, end by end. Assumes nothing.
+-- `end_numbers` meets its contract, end by end. Assumes nothing.
 use mathlib.Core.Path.{_∙_}
 use borrow.Author.Needs.{needs}
-use Rattle.recipe_calls.proofs.end_words.Statement.{statement}
-use Rattle.recipe_calls.proofs.end_words.Tie as tie
+use Rattle.recipe_calls.proofs.end_numbers.Statement.{statement}
+use Rattle.recipe_calls.proofs.end_numbers.Tie as tie
 
-pub end-words-spec : {M : Type 1} → statement M
-end-words-spec =
+pub end-numbers-spec : {M : Type 1} → statement M
+end-numbers-spec =
     tie.close
     (tie.spec
     (λ c. search needs) (λ c. search needs) (λ c. search needs) (λ c. search needs) (λ c. search needs) (λ c. search needs) (λ c. search needs)
