@@ -1,5 +1,6 @@
 // Carries that went out of a number on the way: the X that an add, sub or up line left behind its last step. Of the recipe's
 // last line the table's end row has it; of any other the next line makes another X, and it is told here.
+ghost use Prim.Native.Nat.{_≤_};
 use crate::course::one_more;
 use crate::lines::line_at;
 use crate::lines::target;
@@ -59,14 +60,18 @@ fn is_of(line: Line, told: bool, number: u8) -> bool {
     told & (target(line) == number)
 }
 
+fn one_if(so: bool) -> u64
+    ensures { λ r. ⌜ r ≤ 1 ⌝ }
+{
+    if so { 1 } else { 0 }
+}
+
 fn count_at(recipe: Recipe, told: [bool; LINES_MAX], number: u8) -> u64 {
     let lines = recipe.lines;
     let mut count = 0;
     let mut k = 0;
     while k < LINES_MAX {
-        if is_of(lines[k], told[k], number) {
-            count += 1;
-        }
+        count += one_if(is_of(lines[k], told[k], number));
         k += 1;
     }
     count
@@ -100,7 +105,22 @@ fn carry_line(recipe: Recipe, told: [bool; LINES_MAX], number: u8, many: bool) -
     put_lines(next, recipe, told, number)
 }
 
-// A line for each number that a carry went out of.
+// The line of a number, where a carry went out of it.
+fn put_carry(
+    out: &mut [u8],
+    at: usize,
+    recipe: Recipe,
+    told: [bool; LINES_MAX],
+    number: u8,
+) -> usize {
+    let count = count_at(recipe, told, number);
+    if count == 0 {
+        return at;
+    }
+    put_line(out, at, carry_line(recipe, told, number, 1 < count))
+}
+
+// The lines of all numbers.
 pub(crate) fn put_carries(
     out: &mut [u8],
     at: usize,
@@ -110,10 +130,7 @@ pub(crate) fn put_carries(
     let mut next = at;
     let mut number = 0;
     while number < count_of(recipe.width) {
-        let count = count_at(recipe, told, number);
-        if 0 < count {
-            next = put_line(out, next, carry_line(recipe, told, number, 1 < count));
-        }
+        next = put_carry(out, next, recipe, told, number);
         number += 1;
     }
     next

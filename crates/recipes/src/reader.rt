@@ -206,7 +206,13 @@ fn no_lines() -> [Line; LINES_MAX]
     [unused; LINES_MAX]
 }
 
-fn reading(refusal: Refusal, line: usize, width: u8, count: usize, lines: [Line; LINES_MAX]) -> Reading
+fn reading(
+    refusal: Refusal,
+    line: usize,
+    width: u8,
+    count: usize,
+    lines: [Line; LINES_MAX],
+) -> Reading
     ensures { λ r. ⌜ r ≡ readingOf refusal line width count lines ⌝ }
 {
     let recipe = Recipe {

@@ -48,14 +48,14 @@ determined =
 module _ {M : Type 1} (𝓤 : URA M) (T : Ended) (κs : Lfts (T .signature .lifetimes)) (a : Args (T .signature) κs) {Whole : Type 0}
     (whole : Res (T .signature) κs → Lasts T κs a → Whole)
   where
-  pub record OneExit (says : Res (T .signature) κs → AtExit T κs → SProp 𝓤) : Type 2 where
-    pub of : Whole
-    pub is : (r : Res (T .signature) κs) (ws : Lasts T κs a) → says r (atExit T κs a ws) ≡ fact 𝓤 (whole r ws ≡ of)
-    pub all : (r r′ : Res (T .signature) κs) (ws ws′ : Lasts T κs a) → whole r ws ≡ whole r′ ws′ → (r ≡ r′) × (ws ≡ ws′)
+    pub record OneExit (says : Res (T .signature) κs → AtExit T κs → SProp 𝓤) : Type 2 where
+      pub of : Whole
+      pub is : (r : Res (T .signature) κs) (ws : Lasts T κs a) → says r (atExit T κs a ws) ≡ fact 𝓤 (whole r ws ≡ of)
+      pub all : (r r′ : Res (T .signature) κs) (ws ws′ : Lasts T κs a) → whole r ws ≡ whole r′ ws′ → (r ≡ r′) × (ws ≡ ws′)
 
-  pub same-exit : {says : Res (T .signature) κs → AtExit T κs → SProp 𝓤} (o : OneExit says) (r r′ : Res (T .signature) κs) (ws ws′ : Lasts T κs a)
-      → whole r ws ≡ o .of → whole r′ ws′ ≡ o .of → (r ≡ r′) × (ws ≡ ws′)
-  same-exit o r r′ ws ws′ p q = o .all r r′ ws ws′ (p ∙ sym q)
+    pub same-exit : {says : Res (T .signature) κs → AtExit T κs → SProp 𝓤} (o : OneExit says) (r r′ : Res (T .signature) κs) (ws ws′ : Lasts T κs a)
+        → whole r ws ≡ o .of → whole r′ ws′ ≡ o .of → (r ≡ r′) × (ws ≡ ws′)
+    same-exit o r r′ ws ws′ p q = o .all r r′ ws ws′ (p ∙ sym q)
 
 abbrev toldIn : Performed → Told
 toldIn p = record { outcome = p .outcome; clocks = p .clocks }

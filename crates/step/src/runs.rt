@@ -165,7 +165,13 @@ pub(crate) fn ended(d: [u32; 8], a: [u32; 8], first: u32, on: Course) -> Ran
 }
 
 // A run of a listing that stands in an array, in its first `count` steps; a count above `SLOTS` means all of them.
-pub fn run_array(listing: [Step; SLOTS], count: usize, state: State, start: usize, budget: u32) -> Ran
+pub fn run_array(
+    listing: [Step; SLOTS],
+    count: usize,
+    state: State,
+    start: usize,
+    budget: u32,
+) -> Ran
     ensures { λ r. ⌜ r ≡ runOf performOf (take count listing) state start budget ⌝ }
 {
     let len = lesser(count, SLOTS);

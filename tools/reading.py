@@ -1,0 +1,355 @@
+"""Document 01's recipes read in Python, for tools/recipe-vectors, tools/bench-cases and tools/hostile. It uses nothing of the product.
+
+A step is done by arithmetic on words, what a line means is told of whole numbers: neither uses the other's rules, so that one can be held against
+the other. At the end stands what these tools share beside that: random and damaged recipes, words for the program bench, and how a tool reads its
+own words and starts a program.
+"""
+import collections
+import io
+import itertools
+import os
+import platform
+import re
+import shutil
+import subprocess
+import sys
+
+ROOT = os.path.dirname(os.path.dirname(os.path.realpath(__file__)))
+
+# ---- limits and numbers
+
+TEXT_MAX = 1024  # bytes that a program reads of its input
+LINES_MAX = 32  # lines of a recipe
+STEPS_MAX = 256  # steps of a listing
+PLACE_DIGITS = 10  # digits of a place that bench is asked to start from
+REGISTERS = 8  # of each kind
+WIDTHS = (1, 2, 4)  # registers of a number
+BITS = 32  # bits of a register
+TOP = BITS - 1  # its highest bit
+WORD = (1 << BITS) - 1  # the greatest value of a register, and the greatest step budget
+BAD_WIDTH, BAD_LINE, NO_SUCH_NUMBER, ONTO_ITSELF, TOO_MANY_LINES = READER_REFUSALS = 4, 5, 6, 7, 8
+PAST_THE_END = 10
+FLAGS = "XNZVC"
+X, N, Z, V, C = 16, 8, 4, 2, 1
+XC, ALL = X | C, X | N | Z | V | C
+digits = "{:05b}".format  # of flags: a 0 or 1 for each, in their order
+
+# ---- steps, all of them long, by word arithmetic
+
+
+def seen(r, flags, zero=Z):
+    """A result, and these flags with its N and Z; a result of 0 sets Z only where `zero` has it."""
+    return r, flags | N * (r >> TOP) | (zero & Z) * (r == 0)
+
+
+def added(d, s, x, zero):
+    r = d + s + x & WORD
+    return seen(r, XC * (d + s + x > WORD) | V * (((d ^ r) & (s ^ r)) >> TOP), zero)
+
+
+def subtracted(d, s, x, zero):
+    """By adding the complement: there a borrow is a carry that is missing."""
+    r, flags = added(d, s ^ WORD, 1 - x, zero)
+    return r, flags ^ XC
+
+
+# Of each operation: its source as it is written, where D stands for a data register; its clock figure; its result and flags, from the destination d,
+# the source s and the flags f. A shift by #1 costs 8 and 2 for the one place.
+Operation = collections.namedtuple("Operation", "source clocks rule")
+OPERATIONS = {
+    "ADD": Operation("D", 4, lambda d, s, f: added(d, s, 0, Z)),
+    "ADDX": Operation("D", 4, lambda d, s, f: added(d, s, f // X, f)),
+    "SUB": Operation("D", 4, lambda d, s, f: subtracted(d, s, 0, Z)),
+    "SUBX": Operation("D", 4, lambda d, s, f: subtracted(d, s, f // X, f)),
+    "NEG": Operation("-", 6, lambda d, s, f: subtracted(0, d, 0, Z)),
+    "NEGX": Operation("-", 6, lambda d, s, f: subtracted(0, d, f // X, f)),
+    "CLR": Operation("-", 6, lambda d, s, f: seen(0, f & X)),
+    "NOT": Operation("-", 6, lambda d, s, f: seen(d ^ WORD, f & X)),
+    "ASR": Operation("#1", 8 + 2, lambda d, s, f: seen(d >> 1 | d >> TOP << TOP, XC * (d & 1))),
+    "LSR": Operation("#1", 8 + 2, lambda d, s, f: seen(d >> 1, XC * (d & 1))),
+    "ROXR": Operation("#1", 8 + 2, lambda d, s, f: seen(d >> 1 | f // X << TOP, XC * (d & 1))),
+    "LSL": Operation("#1", 8 + 2, lambda d, s, f: seen(d << 1 & WORD, XC * (d >> TOP))),
+    "ROXL": Operation("#1", 8 + 2, lambda d, s, f: seen(d << 1 & WORD | f // X, XC * (d >> TOP))),
+}
+
+# ---- lines, by whole numbers
+
+
+def signed(number, m):
+    return number - m if 2 * number >= m else number
+
+
+def all_told(total, carry, exact, m):
+    """A target's value, its flags and those promised: all. `exact` is what signed numbers give, before it is cut to their range."""
+    r = total % m
+    return r, XC * carry | N * (2 * r >= m) | Z * (r == 0) | V * (not -m <= 2 * exact < m), ALL
+
+
+# Of each verb: how many numbers it takes; its steps at the first register and at each other; whether it goes from the highest register down; its
+# target's value, the flags and which of them are promised, from the numbers a and b, X and m = 2^(32w). A verb of one number has it as a and b.
+Verb = collections.namedtuple("Verb", "takes first other downward rule")
+VERBS = {
+    "clear": Verb(1, "CLR", "CLR", False, lambda a, b, x, m: (0, X * x, X)),
+    "copy": Verb(2, "CLR ADD", "CLR ADD", False, lambda a, b, x, m: (a, 0, X)),
+    "add": Verb(2, "ADD", "ADDX", False, lambda a, b, x, m: all_told(b + a, b + a >= m, signed(b, m) + signed(a, m), m)),
+    "sub": Verb(2, "SUB", "SUBX", False, lambda a, b, x, m: all_told(b - a, b < a, signed(b, m) - signed(a, m), m)),
+    "neg": Verb(1, "NEG", "NEGX", False, lambda a, b, x, m: all_told(-a, a != 0, -signed(a, m), m)),
+    "not": Verb(1, "NOT", "NOT", False, lambda a, b, x, m: (m - 1 - a, X * x, X)),
+    "halve": Verb(1, "ASR", "ROXR", True, lambda a, b, x, m: (signed(a, m) // 2 % m, X * (a % 2), X)),
+    "down": Verb(1, "LSR", "ROXR", True, lambda a, b, x, m: (a // 2, X * (a % 2), X)),
+    "up": Verb(1, "LSL", "ROXL", False, lambda a, b, x, m: (2 * a % m, X * (2 * a >= m), X)),
+}
+
+
+def numbers_of(registers, w):
+    """A number's lowest register comes first."""
+    return [sum(registers[k + i] << BITS * i for i in range(w)) for k in range(0, REGISTERS, w)]
+
+
+def registers_of(numbers, w):
+    return [number >> BITS * i & WORD for number in numbers for i in range(w)]
+
+
+def line_done(line, w, numbers, flags):
+    """The numbers behind a line, the flags, and those promised."""
+    verb, a, b = line
+    r, flags, promised = VERBS[verb].rule(numbers[a], numbers[b], flags // X, 1 << BITS * w)
+    return numbers[:b] + [r] + numbers[b + 1 :], flags, promised
+
+
+# ---- the reader
+
+
+class Refused(Exception):
+    """A refusal's number, and its text line or place."""
+
+    def __str__(self):
+        return "refused\t%d\t%d\n" % self.args
+
+
+def read_line(row, w, at):
+    """A text line: its verb and numbers a and b, of which b is the target."""
+    verb, *fields = row.removesuffix(b"\n").split(b"\t")
+    verb = verb.decode("latin-1")
+    known = row.endswith(b"\n") and verb in VERBS and len(fields) == VERBS[verb].takes
+    if not known or not all(re.fullmatch(rb"[0-9]", field) for field in fields):
+        raise Refused(BAD_LINE, at)
+    a, b = int(fields[0]), int(fields[-1])
+    if max(a, b) >= REGISTERS // w:
+        raise Refused(NO_SUCH_NUMBER, at)
+    if verb == "copy" and a == b:
+        raise Refused(ONTO_ITSELF, at)
+    return verb, a, b
+
+
+def read(text):
+    """The width and the lines of a text that is handed to a program."""
+    head, *rows = io.BytesIO(text[:TEXT_MAX]).readlines() or [b""]
+    widths = {b"width\t%d\n" % w: w for w in WIDTHS}
+    if head not in widths:
+        raise Refused(BAD_WIDTH, 1)
+    w, lines = widths[head], []
+    for at, row in enumerate(rows, 2):
+        if len(lines) == LINES_MAX:
+            raise Refused(TOO_MANY_LINES, at)
+        lines.append(read_line(row, w, at))
+    return w, lines
+
+
+def fields_of(line):
+    return [str(field) for field in line[: 1 + VERBS[line[0]].takes]]
+
+
+def text_of(w, lines):
+    rows = [["width", str(w)], *map(fields_of, lines)]
+    return "".join("\t".join(row) + "\n" for row in rows).encode()
+
+
+# ---- listings and runs
+
+Step = collections.namedtuple("Step", "operation source to line")  # `to` is the register that it changes, `line` the index of its line
+Asked = collections.namedtuple("Asked", "data address flags start budget")  # what a run is handed
+Standing = collections.namedtuple("Standing", "place data flags clocks")  # where it is after some steps
+
+
+def steps_of(w, line, k=0):
+    """The steps of line k."""
+    verb, a, b = line
+    row, order = VERBS[verb], range(w)
+    return [
+        Step(operation, OPERATIONS[operation].source.replace("D", f"D{a * w + i}"), b * w + i, k)
+        for at, i in enumerate(reversed(order) if row.downward else order)
+        for operation in (row.other if at else row.first).split()
+    ]
+
+
+def listing(w, lines):
+    return [step for k, line in enumerate(lines) for step in steps_of(w, line, k)]
+
+
+def bounds(w, lines):
+    """The places before the first line and behind each."""
+    return list(itertools.accumulate((len(steps_of(w, line)) for line in lines), initial=0))
+
+
+def clocks_of(steps):
+    return sum(OPERATIONS[step.operation].clocks for step in steps)
+
+
+def stepped(standing, step):
+    """How a run stands behind one step more."""
+    data, to = standing.data, step.to
+    source = data[int(step.source[1:])] if step.source.startswith("D") else 0
+    r, flags = OPERATIONS[step.operation].rule(data[to], source, standing.flags)
+    return Standing(standing.place + 1, data[:to] + [r] + data[to + 1 :], flags, standing.clocks + clocks_of([step]))
+
+
+def run(steps, asked):
+    """How the run stands before its first step and after each."""
+    start = Standing(asked.start, asked.data, asked.flags, 0)
+    return list(itertools.accumulate(steps[asked.start : asked.start + asked.budget], stepped, initial=start))
+
+
+def printed(w, lines):
+    """What the program recipe prints."""
+    steps = listing(w, lines)
+    rows = [f"{place}\t{step.operation}\tL\t{step.source}\tD{step.to}\n" for place, step in enumerate(steps)]
+    return "".join([f"width\t{w}\t{len(steps)}\n", *rows, f"clocks\t{clocks_of(steps)}\n"])
+
+
+def plain_rows(w, lines, asked, first=0):
+    """What the program bench prints with the word rows, from the standing `first` on."""
+    steps = listing(w, lines)
+    if asked.start > len(steps):
+        return str(Refused(PAST_THE_END, asked.start))
+    rows = ([str(s.place), *(f"{r:08X}" for r in s.data + asked.address), *digits(s.flags)] for s in run(steps, asked)[first:])
+    return "".join("\t".join(row) + "\n" for row in rows)
+
+
+def told(text, answer, *more):
+    """What a program prints of a text: one of these two, or the text's refusal."""
+    try:
+        return answer(*read(text), *more)
+    except Refused as refused:
+        return str(refused)
+
+
+# ---- random recipes, and registers
+
+
+def corner(rng, m):
+    return rng.choice([0, 1, m // 2 - 1, m // 2, m - 2, m - 1])
+
+
+def some_registers(rng, w):
+    """All random, half corners, all corners; or whole numbers at their corners, so that carries run through every word."""
+    kind = rng.randrange(4)
+    if kind == 3:
+        return registers_of([corner(rng, 1 << BITS * w) for _ in range(REGISTERS // w)], w)
+    return [corner(rng, 1 << BITS) if rng.randrange(2) < kind else rng.getrandbits(BITS) for _ in range(REGISTERS)]
+
+
+def some_recipe(rng):
+    """A width and lines, mostly few; one recipe in twenty has all that it may have, one in four a single verb. No number is copied onto itself."""
+    w = rng.choice(WIDTHS)
+    low, high = rng.choices([(0, 3), (1, 12), (13, LINES_MAX - 1), (LINES_MAX, LINES_MAX)], [25, 58, 12, 5])[0]
+    count, verbs = rng.randint(low, high), list(VERBS)
+    verbs = verbs if rng.randrange(4) else [rng.choice(verbs)]
+    lines = []
+    while len(lines) < count:
+        verb, a, b = rng.choice(verbs), rng.randrange(REGISTERS // w), rng.randrange(REGISTERS // w)
+        if verb != "copy" or a != b:
+            lines.append((verb, a, b if VERBS[verb].takes == 2 else a))
+    return w, lines
+
+
+def hurt(rng, text):
+    """With bytes put in, changed, taken out or doubled; cut; with a line that is well written and bad; with lines or bytes more; or any bytes."""
+    at, byte = rng.randint(0, len(text)), rng.choice([rng.randbytes(1), *(bytes([b]) for b in b"\t\n\r 0123456789acdeghlnopstuvw\0\xff")])
+    bad = rng.choice([b"neg\t9\n", b"add\t0\t8\n", b"sub\t4\t0\n", b"copy\t0\t0\n", b"copy\t1\t1\n", b"copy\t9\t9\n"])
+    more = b"neg\t0\n" * (rng.choice([LINES_MAX, LINES_MAX + 1, TEXT_MAX]) + 1 - text.count(b"\n"))
+    length = rng.choice([0, 1, 7, 8, 9, 20, TEXT_MAX - 1, TEXT_MAX, TEXT_MAX + 1, 70000, rng.randrange(2 * TEXT_MAX)])
+    before, after, line = text[:at], text[at:], text.find(b"\n", at) + 1
+    tail = bytes(rng.choices(b"\t\n0123456789 abcdefghijklmnopqrstuvwxyz", k=length))
+    edits = [byte + after, byte + after[1:], after[1:], after[4:], after[: rng.randrange(40)] + after, b""]
+    whole = [text[:line] + bad + text[line:], text + more, text + tail, (text + tail)[:length], rng.randbytes(length)]
+    return rng.choices([before + rng.choice(edits), *whole], [8, 5, 5, 1, 1, 1])[0]
+
+
+def damaged(rng, text):
+    for _ in range(rng.choice([1, 1, 1, 2, 5])):
+        text = hurt(rng, text)
+    return text
+
+
+# ---- words for the program bench
+
+WORD_BYTES = 64  # of a longer word it says only that it is longer
+BAD_WORDS = [
+    "D8=1", "A8=0", "D9=1", "D0=", "D0", "=1", "", "=", "D=1", "D00=1", "D10=1", "d0=1", "B0=1", "D0=123456789", "A7=G", "D1= 1", "D1=0x1",
+    "D1=-1", "X=2", "X=", "X=00", "x=1", "Y=1", "XN=1", "T=1", "from", "from=", "from=-1", "from=12345678901", "From=1", "from=A", "steps=",
+    "steps=+1", f"steps={WORD + 1}", "steps=9999999999", "steps=00000000001", "step=1", "Rows", "rows=1", "row", "rowss", "-h", "D0=1=",
+    "y" * WORD_BYTES, "y" * (WORD_BYTES + 1), "y" * 5000, "D0=" + "0" * 90, "caf\u00e9=1", "\u00e9=1", "D\u00b2=1",
+]
+
+
+def some_asked(rng, w, steps):
+    """What bench is asked for a recipe of that many steps. In one of eight nothing is set."""
+    far = rng.choice([STEPS_MAX, STEPS_MAX + 1, rng.randrange(10**PLACE_DIGITS)])
+    start = rng.choice([0, 0, 0, rng.randint(0, steps), rng.randint(0, steps), steps, steps + 1, far])
+    budget = rng.choice([WORD, WORD, WORD, rng.randint(0, steps), 0, 1, steps, WORD - 1])
+    zeros = [0] * REGISTERS
+    if not rng.randrange(8):
+        return Asked(zeros, zeros, 0, start, budget)
+    return Asked(some_registers(rng, w), rng.choice([zeros, some_registers(rng, 1)]), rng.randrange(ALL + 1), start, budget)
+
+
+def spelt(rng, value):
+    """Hexadecimal, digits of either case."""
+    return "".join(rng.choice([c, c.lower()]) for c in f"{value:0{rng.randint(1, BITS // 4)}X}")
+
+
+def words_for(rng, asked):
+    """The words that ask for it, each once and in any order; what needs no word has one sometimes."""
+    known = [(f"{kind}{r}", value, 0, spelt(rng, value)) for kind, row in zip("DA", asked) for r, value in enumerate(row)]
+    known += [(name, digit, "0", digit) for name, digit in zip(FLAGS, digits(asked.flags))]
+    numbers = ("from", asked.start, 0), ("steps", asked.budget, WORD)
+    known += [(*number, f"{number[1]:0{rng.choice([1, 1, PLACE_DIGITS])}}") for number in numbers]
+    words = [f"{name}={text}" for name, value, usual, text in known if value != usual or not rng.randrange(4)]
+    rng.shuffle(words)
+    return words
+
+
+# ---- a tool's words, and the programs that it starts
+
+
+def stop(why):
+    print(f"tools/{os.path.basename(sys.argv[0])}: {why}", file=sys.stderr)
+    sys.exit(2)
+
+
+def said(doc, *usual):
+    """The tool's words, and the usual for those that are not said; where that is a number, the word is one. `--help` prints what the tool is."""
+    words = sys.argv[1:]
+    if "--help" in words:
+        print(doc.strip())
+        sys.exit(0)
+    pairs = list(zip(words, usual))
+    if len(pairs) < len(words) or not all(re.fullmatch("[0-9]{1,18}", word) for word, number in pairs if isinstance(number, int)):
+        print("usage:", doc.split(":")[0], file=sys.stderr)
+        sys.exit(2)
+    return [type(value)(word) for word, value in pairs] + list(usual[len(words) :])
+
+
+def command_of(program):
+    """How ./run starts a program, which it has built: by its name, or a path to it. It is x86-64 code; elsewhere the kit's emulator runs it."""
+    path = os.path.abspath(program) if "/" in program else os.path.join(ROOT, "target/bin", program)
+    if not (os.path.isfile(path) and os.access(path, os.X_OK)):
+        stop(f"{path} is not there to run; ./run {os.path.basename(program)} builds it")
+    if platform.machine() == "x86_64":
+        return [path]
+    doc = shutil.which("rt") and subprocess.run(["rt", "doc"], stdout=subprocess.PIPE, text=True, check=False).stdout.strip()
+    if not doc:
+        stop("no `rt doc` of the Rattle kit, which has the emulator for this machine")
+    tools = os.path.join(os.path.dirname(os.path.dirname(doc)), "on", platform.machine(), "toolchain")
+    return [f"{tools}/bin/qemu-x86_64", f"{tools}/lib/ld-linux-x86-64.so.2", "--library-path", f"{tools}/lib", path]
