@@ -55,7 +55,7 @@ fn write(file: &str, text: String) {
     }
 }
 
-/// RATTLE_LIB: the folder of the port's libcalls.a, libstep.a or librecipes.a.
+/// RATTLE_LIB: the folder of those of the port's libraries that are wanted.
 fn link_port(name: &str) {
     println!("cargo::rerun-if-env-changed=RATTLE_LIB");
     let folder = variable("RATTLE_LIB");
@@ -76,6 +76,7 @@ fn main() {
     write("instructions.rs", modules(&folder.join("instructions"), &INSTRUCTIONS));
     for (feature, name) in [
         ("CARGO_FEATURE_PORT", "calls"),
+        ("CARGO_FEATURE_C_FUNCTIONS", "recipe_archive"),
         ("CARGO_FEATURE_STEP", "step"),
         ("CARGO_FEATURE_RECIPES", "recipes"),
     ] {

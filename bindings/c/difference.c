@@ -113,6 +113,7 @@ static int tell(struct counter earlier, struct counter later) {
     show("later       ", later.words, width);
     show("difference  ", d + width, width);
     show_decimal("decimal     ", d + width, width);
+    /* the flags' values are in flags; told[2] is only which of them are promised */
     if (flags & GRO_X)
         puts("the later counter is below the earlier: it was set back, or it went round, and this is the way round");
     return 0;

@@ -26,6 +26,13 @@
 extern "C" {
 #endif
 
+/* Limits. */
+#define GRO_LINES 32   /* the most lines that a recipe has */
+#define GRO_SLOTS 256  /* the slots of a listing: its first so many steps are run and printed */
+#define GRO_STEPS 256  /* the most steps that a recipe has */
+#define GRO_TEXT 1024  /* the bytes that the programs read of a text; the library takes any length */
+#define GRO_ROOM 20480 /* the bytes that any printed listing has room in */
+
 /* Flags in one byte: X 16, N 8, Z 4, V 2, C 1. Higher bits don't count, and are 0 in answers. */
 enum gro_flag { GRO_X = 16, GRO_N = 8, GRO_Z = 4, GRO_V = 2, GRO_C = 1 };
 
@@ -43,8 +50,8 @@ enum gro_operation {
  * Refusal numbers. Of operations and steps: 1 a step's small number is out of its range (1 to 8, for a bit 0 to 31), or ROXL or ROXR is
  * called with a count above 63; 2 the operation hasn't that size, or there is no such operation, size or step; 3 a step's register
  * number is above 7. A step is tested for 3, 2, 1. Of recipes: 4 the width line, or the width; 5 unknown verb, wrong number of fields, a
- * field that isn't one digit, no byte 10; 6 no such number at this width; 7 copy of a number onto itself; 8 more than 32 lines; 9 too few
- * slots. Of runs: 10 the start place is past the end.
+ * field that isn't one digit, no byte 10; 6 no such number at this width; 7 copy of a number onto itself; 8 more than GRO_LINES lines;
+ * 9 too few slots. Of runs: 10 the start place is past the end.
  */
 
 /*
@@ -67,7 +74,8 @@ enum gro_source { GRO_NONE = 0, GRO_SMALL = 1, GRO_DATA = 2, GRO_ADDRESS = 3 };
      (uint64_t)(uint8_t)(source) << 24 | (uint64_t)(uint8_t)(destination) << 32)
 
 /*
- * Runs the first 256 steps of a listing from place start, at most budget steps. d, a and flags are the state, before and after.
+ * Runs a listing from place start, at most budget steps. d, a and flags are the state, before and after. A listing longer than
+ * GRO_SLOTS is cut: it ends Finished at GRO_SLOTS. Test its length before.
  * told: 0 the end, 1 the trap's class (1 Over, 2 Short, 3 Below) or the refusal's number, 2 the place of either (both 0 where it
  * finished or spent its budget), 3 the next place, 4 the steps done, 5 the sum of their clock figures.
  */
@@ -76,11 +84,11 @@ void listing_run(const uint64_t *listing, size_t length, uint32_t d[8], uint32_t
                  uint64_t told[6]);
 
 /*
- * Prints the first 256 steps of a listing as the program recipe does, with this width in the first line. Answers how many bytes it
- * wrote, with no 0 behind them; what has no room is left off. 20,480 bytes are enough for any listing. The last line has the sum of
- * the figures that the steps have where all registers and flags are 0: those of a recipe's steps are the same everywhere; a shift,
- * BSET or BCHG by a register, or a CHK, may have another in a run, and a step that is refused has 0. A word that names no step
- * prints as CHK B D0 D0.
+ * Prints a listing as the program recipe does, with this width in the first line. A listing longer than GRO_SLOTS is cut: it ends at
+ * GRO_SLOTS. Test its length before. Answers how many bytes it wrote, with no 0 behind them; what has no room is left off. GRO_ROOM
+ * bytes are enough for any listing. The last line has the sum of the figures that the steps have where all registers and flags are 0:
+ * those of a recipe's steps are the same everywhere; a shift, BSET or BCHG by a register, or a CHK, may have another in a run, and a
+ * step that is refused has 0. A word that names no step prints as CHK B D0 D0.
  */
 size_t listing_print(uint8_t width, const uint64_t *listing, size_t length, uint8_t *out, size_t room);
 
@@ -97,23 +105,28 @@ enum gro_verb {
  * Reads a recipe text. lines gets its lines, `clear 0` behind them. told: 0 the refusal number (0: none), 1 its text line (0: none), 2
  * the width, 3 the number of lines. A refused text has width 1 and no lines.
  */
-void recipe_read(const uint8_t *text, size_t length, uint32_t lines[32], uint64_t told[4]);
+void recipe_read(const uint8_t *text, size_t length, uint32_t lines[GRO_LINES], uint64_t told[4]);
 
 /*
- * Translates the first count of the 32 lines into a listing of length slots. told: 0 the refusal number (0: none), 1 its text line
+ * Translates the first count of the lines into a listing of length slots. told: 0 the refusal number (0: none), 1 its text line
  * (1 for the width, k + 2 for line k counted from 0, and 0 for 8, 9 and none), 2 the number of steps. The slots past the steps stay; a
- * refusal leaves all. A count above 32 is refused with 8, an unknown verb with 5. 256 slots are enough for any recipe.
+ * refusal leaves all. A count above GRO_LINES is refused with 8, an unknown verb with 5. GRO_STEPS slots are enough for any
+ * recipe.
  */
-void recipe_translate(uint8_t width, size_t count, const uint32_t lines[32], uint64_t *listing, size_t length, uint64_t told[3]);
+void recipe_translate(uint8_t width, size_t count, const uint32_t lines[GRO_LINES], uint64_t *listing, size_t length, uint64_t told[3]);
 
 /* What the program recipe prints for a text: the listing, or `refused`, number and line. Answers as listing_print does. */
 size_t recipe_answer(const uint8_t *text, size_t length, uint8_t *out, size_t room);
 
 /*
- * Reads a recipe text and runs it on a state. told: 0 the refusal number (0: none), 1 its text line, 2 the flags that are promised,
- * 3 the steps, 4 the sum of their clock figures. After add, sub and neg, and with no line, all five flags are promised, else X alone;
- * a flag that is not promised is left 0. A refused text leaves d, a and the five flags,
- * and tells all five promised, 0 steps and 0 clocks.
+ * Reads a recipe text and runs it on a state. told:
+ *   0 the refusal number (0: none)
+ *   1 its text line
+ *   2 a mask: which flags are promised (GRO_X alone, or all five). Their values are in *flags
+ *   3 the steps
+ *   4 the sum of their clock figures
+ * After add, sub and neg, and with no line, all five flags are promised, else X alone; a flag that is not promised is left 0. A refused
+ * text leaves d, a and the five flags, and tells all five promised, 0 steps and 0 clocks.
  */
 void recipe_run(const uint8_t *text, size_t length, uint32_t d[8], uint32_t a[8], uint8_t *flags, uint64_t told[5]);
 

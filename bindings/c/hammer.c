@@ -10,7 +10,7 @@
 #include <stdlib.h>
 #include <string.h>
 
-enum { SLOTS = 300, TEXT = 1200, ROOM = 20480, REFUSALS = 11, ENDS = 4 };
+enum { SLOTS = GRO_SLOTS + 44, TEXT = GRO_TEXT + 176, REFUSALS = 11, ENDS = 4 };
 
 static uint64_t seed, refusals[REFUSALS], ends[ENDS], differing;
 
@@ -94,7 +94,7 @@ static uint64_t some_word(void) {
 
 static void try_listing(void) {
     size_t length = below(SLOTS + 1), start = below(4) ? 0 : below(4) ? below(SLOTS) : (size_t)bits();
-    size_t room = below(8) ? ROOM : below(400), i;
+    size_t room = below(8) ? GRO_ROOM : below(400), i;
     uint64_t *listing = (uint64_t *)row(length * 8), *told = (uint64_t *)row(48), *rest = (uint64_t *)row(48);
     struct state whole = some_state(), halted = copy_of(whole);
     uint8_t *out = (uint8_t *)row(room);
@@ -116,7 +116,7 @@ static void try_listing(void) {
 
 static size_t sound(char *text, unsigned width) {
     static const char *const verbs[] = {"clear", "copy", "add", "sub", "neg", "not", "halve", "down", "up"};
-    unsigned lines = below(34), numbers = 8 / width, i;
+    unsigned lines = below(GRO_LINES + 2), numbers = 8 / width, i;
     size_t at = (size_t)sprintf(text, "width\t%u\n", width);
     for (i = 0; i < lines; i++) {
         unsigned verb = below(9), a = below(numbers), b = (a + 1 + below(numbers - 1)) % numbers;
@@ -146,7 +146,7 @@ static uint8_t *some_text(size_t *length) {
 
 /* What is read, translated and printed, and what is answered: into rows of the same length. */
 static void try_answer(const uint8_t *text, size_t length, const uint32_t *lines, const uint64_t *read) {
-    size_t room = below(4) ? ROOM : below(600), slots = below(4) ? 256 : below(SLOTS + 1), i, wrote, printed;
+    size_t room = below(4) ? GRO_ROOM : below(600), slots = below(4) ? GRO_STEPS : below(SLOTS + 1), i, wrote, printed;
     uint8_t *out = (uint8_t *)row(room), *again = (uint8_t *)row(room);
     uint64_t *listing = (uint64_t *)row(slots * 8), *before = (uint64_t *)row(slots * 8), *told = (uint64_t *)row(24);
     memcpy(before, listing, slots * 8);
@@ -165,11 +165,11 @@ static void try_answer(const uint8_t *text, size_t length, const uint32_t *lines
 
 /* What is read, translated and run, and what is run. */
 static void try_run(const uint8_t *text, size_t length, const uint32_t *lines, const uint64_t *read) {
-    uint64_t *listing = (uint64_t *)row(256 * 8), *made = (uint64_t *)row(24), *ran = (uint64_t *)row(48), *told = (uint64_t *)row(40);
+    uint64_t *listing = (uint64_t *)row(GRO_STEPS * 8), *made = (uint64_t *)row(24), *ran = (uint64_t *)row(48), *told = (uint64_t *)row(40);
     struct state whole = some_state(), stepped = copy_of(whole);
-    recipe_translate((uint8_t)read[2], (size_t)read[3], lines, listing, 256, made);
+    recipe_translate((uint8_t)read[2], (size_t)read[3], lines, listing, GRO_STEPS, made);
     recipe_run(text, length, whole.d, whole.a, whole.flags, told);
-    listing_run(listing, (size_t)made[2], stepped.d, stepped.a, stepped.flags, 0, 256, ran);
+    listing_run(listing, (size_t)made[2], stepped.d, stepped.a, stepped.flags, 0, GRO_STEPS, ran);
     agrees(told[0] == read[0] && told[1] == read[1], "the refusal of a recipe");
     agrees(told[3] == ran[4] && told[4] == ran[5], "steps and clocks of a recipe");
     agrees(!memcmp(whole.d, stepped.d, 32) && !memcmp(whole.a, stepped.a, 32), "the registers after a recipe");
@@ -180,7 +180,7 @@ static void try_run(const uint8_t *text, size_t length, const uint32_t *lines, c
 static void try_text(void) {
     size_t length;
     uint8_t *text = some_text(&length);
-    uint32_t *lines = (uint32_t *)row(128);
+    uint32_t *lines = (uint32_t *)row(GRO_LINES * 4);
     uint64_t *read = (uint64_t *)row(32);
     recipe_read(text, length, lines, read);
     refusals[read[0]]++;
@@ -191,11 +191,11 @@ static void try_text(void) {
 
 /* Any bytes for a recipe. */
 static void try_words(void) {
-    size_t slots = below(SLOTS + 1), count = below(8) ? below(33) : (size_t)bits(), i;
-    uint32_t *lines = (uint32_t *)row(128);
+    size_t slots = below(SLOTS + 1), count = below(8) ? below(GRO_LINES + 1) : (size_t)bits(), i;
+    uint32_t *lines = (uint32_t *)row(GRO_LINES * 4);
     uint64_t *listing = (uint64_t *)row(slots * 8), *told = (uint64_t *)row(24);
     if (below(4))
-        for (i = 0; i < 32; i++) lines[i] = GRO_LINE(below(64) ? below(9) : below(256), below(2), below(32) ? 1 : below(256));
+        for (i = 0; i < GRO_LINES; i++) lines[i] = GRO_LINE(below(64) ? below(9) : below(256), below(2), below(32) ? 1 : below(256));
     recipe_translate((uint8_t)(below(8) ? 1u << below(3) : below(256)), count, lines, listing, slots, told);
     refusals[told[0]]++;
     agrees(told[2] <= slots && (told[0] == 0 || told[2] == 0), "the steps of a recipe in words");

@@ -10,25 +10,25 @@
 #include <string.h>
 #include <ucontext.h>
 
-enum { SAID = 16384, STACK = 1 << 18, PAINT = 0x5A, MOST = 300, ROOM = 20480 };
+enum { SAID = 16384, STACK = 1 << 18, PAINT = 0x5A, MOST = GRO_SLOTS + 44 };
 
-static uint8_t stack[STACK], out[ROOM];
+static uint8_t stack[STACK], out[GRO_ROOM];
 static ucontext_t here, there;
 static uint64_t listing[MOST], told[6];
-static uint32_t lines[32], d[8], a[8];
+static uint32_t lines[GRO_LINES], d[8], a[8];
 static uint8_t flags;
-static char text[1024];
+static char text[GRO_TEXT];
 static size_t length;
 static unsigned operation, size;
 
 static void nothing(void) {}
 static void call_alu(void) { told[0] = alu_call((uint8_t)operation, (uint8_t)size, 0x81234567, 0x89ABCDEF, 31); }
 static void call_read(void) { recipe_read((const uint8_t *)text, length, lines, told); }
-static void call_translate(void) { recipe_translate((uint8_t)size, 32, lines, listing, MOST, told); }
-static void call_answer(void) { told[0] = recipe_answer((const uint8_t *)text, length, out, ROOM); }
+static void call_translate(void) { recipe_translate((uint8_t)size, GRO_LINES, lines, listing, MOST, told); }
+static void call_answer(void) { told[0] = recipe_answer((const uint8_t *)text, length, out, GRO_ROOM); }
 static void call_run_recipe(void) { recipe_run((const uint8_t *)text, length, d, a, &flags, told); }
 static void call_run(void) { listing_run(listing, MOST, d, a, &flags, 0, 1000, told); }
-static void call_print(void) { told[0] = listing_print((uint8_t)size, listing, MOST, out, ROOM); }
+static void call_print(void) { told[0] = listing_print((uint8_t)size, listing, MOST, out, GRO_ROOM); }
 
 /* The bytes that a call changed, from the deepest up; one that stayed as painted by chance counts with those below it. */
 static size_t used(void (*call)(void)) {
@@ -67,10 +67,10 @@ static size_t most_of_recipes(void (*call)(void)) {
     unsigned verb, i, count;
     for (verb = 0; verb < sizeof verbs / sizeof *verbs; verb++)
         for (size = 1; size < 5; size++)
-            for (count = 0; count < 34; count++) {
+            for (count = 0; count < GRO_LINES + 2; count++) {
                 size_t now, at = (size_t)sprintf(text, "width\t%u\n", size);
                 for (i = 0; i < count; i++) at += (size_t)sprintf(text + at, "%s\n", verbs[verb]);
-                for (i = 0; i < 32; i++) lines[i] = GRO_LINE(verb, 0, 1);
+                for (i = 0; i < GRO_LINES; i++) lines[i] = GRO_LINE(verb, 0, 1);
                 length = at;
                 now = used(call);
                 if (now > most) most = now;

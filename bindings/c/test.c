@@ -8,7 +8,7 @@
 #include <stdlib.h>
 #include <string.h>
 
-enum { GUARD = 64, MARK = 0xA5, MOST = 300, ROOM = 20480 };
+enum { GUARD = 64, MARK = 0xA5, MOST = GRO_SLOTS + 44 };
 
 static const char example[] = "width\t2\nadd\t0\t1\nneg\t1\n";
 static const char printed[] =
@@ -75,19 +75,19 @@ static void test_operations(void) {
 
 static void read_one(const char *text, size_t length, uint64_t number, uint64_t line, uint64_t width, uint64_t count) {
     uint8_t *copy = (uint8_t *)row(length);
-    uint32_t *lines = (uint32_t *)row(32 * sizeof *lines);
+    uint32_t *lines = (uint32_t *)row(GRO_LINES * sizeof *lines);
     uint64_t *told = (uint64_t *)row(4 * sizeof *told);
     memcpy(copy, text, length);
     recipe_read(copy, length, lines, told);
     check(told[0] == number && told[1] == line && told[2] == width && told[3] == count, "what is read", length);
     check(memcmp(copy, text, length) == 0, "the text stays", length);
     done(copy, length, "around a text", length);
-    done(lines, 32 * sizeof *lines, "around lines", length);
+    done(lines, GRO_LINES * sizeof *lines, "around lines", length);
     done(told, 4 * sizeof *told, "around what is told", length);
 }
 
 static void test_reading(void) {
-    uint32_t lines[32] = {0};
+    uint32_t lines[GRO_LINES] = {0};
     uint64_t told[4] = {0};
     size_t length;
     unsigned i, rest = 0;
@@ -98,35 +98,35 @@ static void test_reading(void) {
         else read_one(example, length, length < 8 ? 4 : 5, at, 1, 0);
     }
     recipe_read(bytes(example), sizeof example - 1, lines, told);
-    for (i = 2; i < 32; i++) rest |= lines[i];
+    for (i = 2; i < GRO_LINES; i++) rest |= lines[i];
     check(lines[0] == GRO_LINE(GRO_VERB_ADD, 0, 1) && lines[1] == GRO_LINE(GRO_VERB_NEG, 1, 0) && rest == 0, "lines", 0);
 }
 
 static void translate_one(uint8_t width, size_t count, const uint32_t *lines, size_t slots, uint64_t number, uint64_t line,
                           uint64_t steps) {
     uint64_t *listing = (uint64_t *)row(slots * sizeof *listing), *told = (uint64_t *)row(3 * sizeof *told);
-    uint32_t *copy = (uint32_t *)row(32 * sizeof *copy);
-    memcpy(copy, lines, 32 * sizeof *copy);
+    uint32_t *copy = (uint32_t *)row(GRO_LINES * sizeof *copy);
+    memcpy(copy, lines, GRO_LINES * sizeof *copy);
     recipe_translate(width, count, copy, listing, slots, told);
     check(told[0] == number && told[1] == line && told[2] == steps, "what is translated", (unsigned long)slots);
     check(marked(listing + steps, (slots - (size_t)steps) * sizeof *listing), "slots past the steps", (unsigned long)slots);
-    check(memcmp(copy, lines, 32 * sizeof *copy) == 0, "the lines stay", (unsigned long)slots);
+    check(memcmp(copy, lines, GRO_LINES * sizeof *copy) == 0, "the lines stay", (unsigned long)slots);
     done(listing, slots * sizeof *listing, "around a listing", (unsigned long)slots);
     done(told, 3 * sizeof *told, "around what is told", (unsigned long)slots);
-    done(copy, 32 * sizeof *copy, "around lines", (unsigned long)slots);
+    done(copy, GRO_LINES * sizeof *copy, "around lines", (unsigned long)slots);
 }
 
 static void test_translating(void) {
-    uint32_t lines[32] = {GRO_LINE(GRO_VERB_ADD, 0, 1), GRO_LINE(GRO_VERB_NEG, 1, 255)}, copies[32];
+    uint32_t lines[GRO_LINES] = {GRO_LINE(GRO_VERB_ADD, 0, 1), GRO_LINE(GRO_VERB_NEG, 1, 255)}, copies[GRO_LINES];
     size_t slots;
     unsigned i;
-    for (i = 0; i < 32; i++) copies[i] = GRO_LINE(GRO_VERB_COPY, 0, 1) | 0xFF000000;
+    for (i = 0; i < GRO_LINES; i++) copies[i] = GRO_LINE(GRO_VERB_COPY, 0, 1) | 0xFF000000;
     for (slots = 0; slots <= MOST; slots++) {
         translate_one(2, 2, lines, slots, slots < 4 ? 9 : 0, 0, slots < 4 ? 0 : 4);
-        translate_one(4, 32, copies, slots, slots < 256 ? 9 : 0, 0, slots < 256 ? 0 : 256);
+        translate_one(4, GRO_LINES, copies, slots, slots < GRO_STEPS ? 9 : 0, 0, slots < GRO_STEPS ? 0 : GRO_STEPS);
     }
     translate_one(3, 2, lines, MOST, 4, 1, 0);
-    translate_one(2, 33, lines, MOST, 8, 0, 0);
+    translate_one(2, GRO_LINES + 1, lines, MOST, 8, 0, 0);
     translate_one(2, SIZE_MAX, lines, MOST, 8, 0, 0);
     lines[1] = GRO_LINE(GRO_VERB_UP + 1, 0, 0);
     translate_one(2, 2, lines, MOST, 5, 3, 0);
@@ -160,15 +160,15 @@ static void run_one(const uint64_t *listing, size_t length, size_t start, uint32
 static void test_runs(void) {
     uint64_t listing[MOST] = {GRO_STEP(GRO_ADD, GRO_LONG, GRO_DATA, 0, 2), GRO_STEP(GRO_CHK, GRO_WORD, GRO_DATA, 3, 0)};
     const uint64_t budget[6] = {GRO_BUDGET, 0, 0, 1, 1, 4}, trapped[6] = {GRO_TRAPPED, 1, 1, 2, 2, 12};
-    const uint64_t none[6] = {GRO_BUDGET, 0, 0, 0, 0, 0}, past[6] = {GRO_REFUSED, 10, 257, 257, 0, 0};
-    const uint64_t refused[6] = {GRO_REFUSED, 2, 255, 255, 0, 0}, end[6] = {GRO_FINISHED, 0, 0, 256, 0, 0};
-    listing[255] = GRO_STEP(GRO_CLR, GRO_LONG, GRO_SMALL, 1, 2);
+    const uint64_t none[6] = {GRO_BUDGET, 0, 0, 0, 0, 0}, past[6] = {GRO_REFUSED, 10, GRO_SLOTS + 1, GRO_SLOTS + 1, 0, 0};
+    const uint64_t refused[6] = {GRO_REFUSED, 2, GRO_SLOTS - 1, GRO_SLOTS - 1, 0, 0}, end[6] = {GRO_FINISHED, 0, 0, GRO_SLOTS, 0, 0};
+    listing[GRO_SLOTS - 1] = GRO_STEP(GRO_CLR, GRO_LONG, GRO_SMALL, 1, 2);
     run_one(listing, 2, 0, 0, none, 0xFFFFFFFF, 0);
     run_one(listing, 2, 0, 1, budget, 0, 1);
     run_one(listing, 2, 0, 9, trapped, 0, 1);
-    run_one(listing, MOST, 255, 9, refused, 0xFFFFFFFF, 0);
-    run_one(listing, MOST, 256, 0, end, 0xFFFFFFFF, 0);
-    run_one(listing, MOST, 257, 9, past, 0xFFFFFFFF, 0);
+    run_one(listing, MOST, GRO_SLOTS - 1, 9, refused, 0xFFFFFFFF, 0);
+    run_one(listing, MOST, GRO_SLOTS, 0, end, 0xFFFFFFFF, 0);
+    run_one(listing, MOST, GRO_SLOTS + 1, 9, past, 0xFFFFFFFF, 0);
 }
 
 /* ---- printing */
@@ -178,7 +178,7 @@ static void print_one(const char *text, size_t room) {
     size_t length = strlen(printed), most = room < length ? room : length, wrote, answered;
     uint8_t *out = (uint8_t *)row(room), *again = (uint8_t *)row(room);
     uint64_t listing[4] = {0}, told[3] = {0};
-    uint32_t lines[32] = {GRO_LINE(GRO_VERB_ADD, 0, 1), GRO_LINE(GRO_VERB_NEG, 1, 0)};
+    uint32_t lines[GRO_LINES] = {GRO_LINE(GRO_VERB_ADD, 0, 1), GRO_LINE(GRO_VERB_NEG, 1, 0)};
     recipe_translate(2, 2, lines, listing, 4, told);
     wrote = listing_print(2, listing, 4, out, room);
     answered = recipe_answer(bytes(text), strlen(text), again, room);
@@ -190,15 +190,15 @@ static void print_one(const char *text, size_t room) {
 
 static void test_printing(void) {
     uint64_t longest[MOST];
-    uint8_t *out = (uint8_t *)row(ROOM);
+    uint8_t *out = (uint8_t *)row(GRO_ROOM);
     size_t room, wrote;
     unsigned i;
     for (room = 0; room <= sizeof printed + 8; room++) print_one(example, room);
     for (i = 0; i < MOST; i++) longest[i] = GRO_STEP(GRO_ADDA, GRO_LONG, GRO_ADDRESS, 255, 255) | (uint64_t)0xABCDEF << 40;
-    wrote = listing_print(255, longest, MOST, out, ROOM);
-    check(wrote < ROOM && memcmp(out + wrote - 9, "clocks\t0\n", 9) == 0, "room for any listing", (unsigned long)wrote);
-    check(marked(out + wrote, ROOM - wrote), "behind what is printed", 0);
-    done(out, ROOM, "around what is printed", 0);
+    wrote = listing_print(255, longest, MOST, out, GRO_ROOM);
+    check(wrote < GRO_ROOM && memcmp(out + wrote - 9, "clocks\t0\n", 9) == 0, "room for any listing", (unsigned long)wrote);
+    check(marked(out + wrote, GRO_ROOM - wrote), "behind what is printed", 0);
+    done(out, GRO_ROOM, "around what is printed", 0);
 }
 
 /* ---- recipes on a state */

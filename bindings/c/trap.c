@@ -3,7 +3,7 @@
 
 #include <stdio.h>
 
-enum { STEPS = 3, ROOM = 20480 };
+enum { STEPS = 3 };
 
 /* Adds 8 to D1, checks it against the bound in D0, clears D1. */
 static const uint64_t listing[STEPS] = {
@@ -26,9 +26,9 @@ static size_t go(size_t place, uint32_t budget, uint32_t d[8], uint32_t a[8], ui
 
 int main(void) {
     uint32_t d[8] = {10, 5, 0, 0, 0, 0, 0, 0}, a[8] = {0, 0, 0, 0, 0, 0, 0, 0};
-    uint8_t flags = 0, out[ROOM] = {0};
+    uint8_t flags = 0, out[GRO_ROOM] = {0};
     size_t place;
-    fwrite(out, 1, listing_print(1, listing, STEPS, out, ROOM), stdout);
+    fwrite(out, 1, listing_print(1, listing, STEPS, out, GRO_ROOM), stdout);
     place = go(0, 1, d, a, &flags);
     place = go(place, 100, d, a, &flags);
     go(place, 100, d, a, &flags);

@@ -13,6 +13,8 @@ pub mod core {
 }
 pub use shim::{fpu, mmu};
 
+#[cfg(feature = "c_functions")]
+pub mod c_functions;
 pub mod cases;
 pub mod check;
 pub mod document;

@@ -39,8 +39,7 @@ impl Machine {
             cpu.dar[i] = state.d[i];
             cpu.dar[8 + i] = state.a[i];
         }
-        let f = state.flags;
-        cpu.set_ccr([f.x, f.n, f.z, f.v, f.c].into_iter().fold(0, |sum, flag| sum * 2 + u8::from(flag)));
+        cpu.set_ccr(state.flags.ccr());
         Machine { cpu, bus: Silent }
     }
 

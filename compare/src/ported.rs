@@ -1,7 +1,8 @@
-//! The port's steps and runs, called as the kit compiles them: a struct goes by a pointer to it, the answer's first, and a
-//! slice by a pointer to its pointer and length. The layouts are those of `steps`; a digest of all answers tells if one
-//! is not.
+//! What of the port's runs and single steps has no C function, and `run_array` to measure. It is called as the kit compiles
+//! it: a struct goes by a pointer to it, the answer's first, and a slice by a pointer to its pointer and length. The
+//! layouts are those of `steps`; a digest of all answers tells if one is not.
 
+use crate::recipes::SLOTS;
 use crate::steps::{Class, End, Fault, Ran, Slice, State, Step};
 use std::mem::MaybeUninit;
 
@@ -37,7 +38,7 @@ struct Told {
 unsafe extern "C" {
     fn step_runs_run_array(
         answer: *mut Answer,
-        listing: *const [Step; 256],
+        listing: *const [Step; SLOTS],
         count: usize,
         state: *const State,
         start: usize,
@@ -64,7 +65,7 @@ fn answered(state: &mut State, ask: impl FnOnce(*mut Answer, *const State)) -> R
     Ran { end: answer.end, next: answer.next, steps: answer.steps, clocks: answer.clocks }
 }
 
-pub fn run_array(listing: &[Step; 256], count: usize, state: &mut State, start: usize, budget: u32) -> Ran {
+pub fn run_array(listing: &[Step; SLOTS], count: usize, state: &mut State, start: usize, budget: u32) -> Ran {
     // SAFETY: the pointers are to live values, and the port keeps none of them.
     answered(state, |answer, state| unsafe {
         step_runs_run_array(answer, listing, count, state, start, budget)
@@ -72,7 +73,7 @@ pub fn run_array(listing: &[Step; 256], count: usize, state: &mut State, start: 
 }
 
 pub fn run(listing: &[Step], state: &mut State, start: usize, budget: u32) -> Ran {
-    let slice = Slice { at: listing.as_ptr(), length: listing.len() };
+    let slice = Slice::lent(listing);
     // SAFETY: as above.
     answered(state, |answer, state| unsafe { step_lent_run(answer, &slice, state, start, budget) })
 }
@@ -81,7 +82,7 @@ pub fn run(listing: &[Step], state: &mut State, start: usize, budget: u32) -> Ra
 pub fn stored(listing: &[Step]) -> Vec<Step> {
     let mut copy = vec![listing[0]; listing.len()];
     for (at, step) in listing.iter().enumerate() {
-        let slice = Slice { at: copy.as_mut_ptr(), length: copy.len() };
+        let slice = Slice::lent_to_write(&mut copy);
         // SAFETY: as above; the slice is of `copy`, which nothing else holds.
         unsafe { step_lent_store(&slice, at, step) };
     }
@@ -90,7 +91,7 @@ pub fn stored(listing: &[Step]) -> Vec<Step> {
 
 /// A run by single steps on a lent register set, with document 01's tests around them.
 pub fn by_steps(listing: &[Step], state: &mut State, start: usize, budget: u32) -> Ran {
-    let slice = Slice { at: listing.as_ptr(), length: listing.len() };
+    let slice = Slice::lent(listing);
     let mut ran = Ran { end: End::Budget, next: start, steps: 0, clocks: 0 };
     if start > listing.len() {
         ran.end = End::Refused(Fault::StartPastEnd, start);

@@ -1,10 +1,25 @@
 //! A reading of document 01's recipes: from a text to a recipe, from that to a listing, from that to what is printed. It
-//! is written from the document alone, with lists and strings. Of the port it has the layout of the records, as in
-//! `steps`, and what the reader fills unused ones with.
+//! is written from the document alone, with lists and strings. Of the port it has the layout of the records and their
+//! words, as in `steps`, and what the reader fills unused ones with.
 
 use crate::steps::{Count, Form, One, Shift, Size, Step, Two};
 use std::fmt::Write;
 use std::iter::{once, repeat};
+
+/// As many lines as a recipe may have.
+pub const LINES_MAX: usize = 32;
+
+/// As many steps as a recipe may have: that many copies at width 4.
+pub const STEPS_MAX: usize = 256;
+
+/// The slots of a listing in an array, and of one in words: steps past them are not run.
+pub const SLOTS: usize = 256;
+
+/// As many bytes of its input as the program reads.
+pub const TEXT_MAX: usize = 1024;
+
+/// As many bytes as the program has room for in what it prints.
+pub const PRINT_MAX: usize = 20_480;
 
 #[derive(Clone, Copy, PartialEq, Debug)]
 #[repr(u8)]
@@ -42,8 +57,12 @@ pub struct Line {
     pub b: u8,
 }
 
-/// As many lines as a recipe may have.
-pub const MOST: usize = 32;
+impl Line {
+    /// The line as the C functions take it: verb, a and b, from the lowest byte up.
+    pub fn word(&self) -> u32 {
+        u32::from_le_bytes([self.verb as u8, self.a, self.b, 0])
+    }
+}
 
 /// The first `count` lines are the recipe's; the reader makes the others `clear 0`.
 #[derive(Clone, Copy, PartialEq, Debug)]
@@ -51,13 +70,13 @@ pub const MOST: usize = 32;
 pub struct Recipe {
     pub width: u8,
     pub count: usize,
-    pub lines: [Line; MOST],
+    pub lines: [Line; LINES_MAX],
 }
 
 impl Recipe {
     /// A recipe without lines.
     pub fn empty(width: u8) -> Recipe {
-        Recipe { width, count: 0, lines: [Line { verb: Verb::Clear, a: 0, b: 0 }; MOST] }
+        Recipe { width, count: 0, lines: [Line { verb: Verb::Clear, a: 0, b: 0 }; LINES_MAX] }
     }
 }
 
@@ -108,7 +127,7 @@ pub fn read(text: &[u8]) -> Result<Recipe, Refused> {
     let mut recipe = Recipe::empty(width.ok_or(Refused { number: 4, line: 1 })?);
     for (at, text) in lines.enumerate() {
         let refused = |number| Refused { number, line: at + 2 };
-        if at == MOST {
+        if at == LINES_MAX {
             return Err(refused(8));
         }
         let line = line_of(text).ok_or(refused(5))?;
@@ -158,7 +177,7 @@ pub fn translate(recipe: &Recipe, slots: usize) -> Result<Vec<Step>, Refused> {
     if !WIDTHS.contains(&recipe.width) {
         return Err(Refused { number: 4, line: 1 });
     }
-    if recipe.count > MOST {
+    if recipe.count > LINES_MAX {
         return Err(Refused { number: 8, line: 0 });
     }
     let lines = &recipe.lines[..recipe.count];
@@ -205,12 +224,12 @@ fn print(width: u8, listing: &[Step]) -> String {
 
 /// What the program reads of its input.
 pub fn taken(input: &[u8]) -> &[u8] {
-    &input[..input.len().min(1024)]
+    &input[..input.len().min(TEXT_MAX)]
 }
 
 /// What it prints.
 pub fn answer(text: &[u8]) -> String {
-    match read(text).and_then(|recipe| Ok((recipe.width, translate(&recipe, 256)?))) {
+    match read(text).and_then(|recipe| Ok((recipe.width, translate(&recipe, SLOTS)?))) {
         Ok((width, listing)) => print(width, &listing),
         Err(Refused { number, line }) => format!("refused\t{number}\t{line}\n"),
     }

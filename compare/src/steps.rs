@@ -1,6 +1,9 @@
 //! Step records, laid out as the port lays out its own (C's layout, a byte for a variant, its fields after it), so that one
-//! listing in memory is run by both; and the listings that `runs` runs, made of random numbers. A digest stands for all
-//! that the runs of a listing answer.
+//! listing in memory is run by both; what the C functions take and tell in their place, laid out as
+//! bindings/c/gromavelush.h says; and the listings that `runs` runs, made of random numbers. A digest stands for all that
+//! the runs of a listing answer.
+
+use crate::recipes::SLOTS;
 
 #[derive(Clone, Copy, PartialEq, Debug)]
 #[repr(u8)]
@@ -18,6 +21,19 @@ pub struct Flags {
     pub v: bool,
     pub c: bool,
 }
+
+impl Flags {
+    /// X 16, N 8, Z 4, V 2, C 1
+    pub fn ccr(self) -> u8 {
+        [self.x, self.n, self.z, self.v, self.c].into_iter().fold(0, |sum, flag| sum * 2 + u8::from(flag))
+    }
+
+    pub fn of(ccr: u8) -> Flags {
+        let [x, n, z, v, c] = [16, 8, 4, 2, 1].map(|weight| ccr & weight != 0);
+        Flags { x, n, z, v, c }
+    }
+}
+
 #[derive(Clone, Copy, PartialEq, Debug)]
 #[repr(u8)]
 pub enum Two {
@@ -98,6 +114,27 @@ pub struct Step {
     pub size: Size,
     pub form: Form,
 }
+
+impl Step {
+    /// The step's word: the operation, the size, the source's kind and number and the destination, from the lowest byte up.
+    pub fn word(&self) -> u64 {
+        let (operation, kind, from, to) = match self.form {
+            Form::Two(op, from, to) => (op as u8, 2, from, to),
+            Form::Address(op, Register::Data(from), to) => (5 + op as u8, 2, from, to),
+            Form::Address(op, Register::Address(from), to) => (5 + op as u8, 3, from, to),
+            Form::Quick(op, small, Register::Data(to)) => (8 + op as u8, 1, small, to),
+            Form::Quick(op, small, Register::Address(to)) => (10 + op as u8, 1, small, to),
+            Form::One(op, to) => (12 + op as u8, 0, 0, to),
+            Form::Shift(op, Count::Small(small), to) => (17 + op as u8, 1, small, to),
+            Form::Shift(op, Count::Data(from), to) => (17 + op as u8, 2, from, to),
+            Form::Bit(op, Count::Small(small), to) => (25 + op as u8, 1, small, to),
+            Form::Bit(op, Count::Data(from), to) => (25 + op as u8, 2, from, to),
+            Form::Chk(from, to) => (29, 2, from, to),
+        };
+        u64::from_le_bytes([operation, self.size as u8, kind, from, to, 0, 0, 0])
+    }
+}
+
 #[derive(Clone, Copy)]
 #[repr(C)]
 pub struct State {
@@ -138,11 +175,36 @@ pub struct Ran {
     pub steps: u32,
     pub clocks: u64,
 }
+
+impl Ran {
+    /// The end, the trap's class or the refusal's number, the place of either, the next place, the steps, the clocks.
+    pub fn told(&self) -> [u64; 6] {
+        const NUMBERS: [u64; 4] = [1, 2, 3, 10];
+        let [end, which, place] = match self.end {
+            End::Finished => [0, 0, 0],
+            End::Budget => [1, 0, 0],
+            End::Trapped(class, place) => [2, 1 + class as u64, place as u64],
+            End::Refused(fault, place) => [3, NUMBERS[fault as usize], place as u64],
+        };
+        [end, which, place, self.next as u64, self.steps.into(), self.clocks]
+    }
+}
+
 /// &[T] or &mut [T]
 #[repr(C)]
 pub struct Slice<T> {
-    pub at: *const T,
-    pub length: usize,
+    at: *const T,
+    length: usize,
+}
+
+impl<T> Slice<T> {
+    pub fn lent(slice: &[T]) -> Slice<T> {
+        Slice { at: slice.as_ptr(), length: slice.len() }
+    }
+
+    pub fn lent_to_write(slice: &mut [T]) -> Slice<T> {
+        Slice { at: slice.as_mut_ptr(), length: slice.len() }
+    }
 }
 
 pub const FIRST: State = State {
@@ -230,8 +292,8 @@ pub fn steps_of(kinds: u32, seed: u32) -> impl Iterator<Item = Step> {
     })
 }
 
-pub fn listing_of(kinds: u32, seed: u32) -> [Step; 256] {
-    let steps: Vec<Step> = steps_of(kinds, seed).take(256).collect();
+pub fn listing_of(kinds: u32, seed: u32) -> [Step; SLOTS] {
+    let steps: Vec<Step> = steps_of(kinds, seed).take(SLOTS).collect();
     std::array::from_fn(|at| steps[at])
 }
 
@@ -241,19 +303,12 @@ fn mixed(sum: u64, value: u64) -> u64 {
     (sum * 31 + value % PRIME) % PRIME
 }
 
-/// All that a run answers but the registers.
-pub fn answered(sum: u64, ran: &Ran) -> u64 {
-    let (end, place) = match ran.end {
-        End::Finished => (0, 0),
-        End::Budget => (1, 0),
-        End::Trapped(class, at) => (10 + class as u64, at),
-        End::Refused(fault, at) => (20 + fault as u64, at),
-    };
-    [end, place as u64, ran.next as u64, u64::from(ran.steps), ran.clocks].into_iter().fold(sum, mixed)
+/// All that is told of a run; the registers are not in it.
+pub fn answered(sum: u64, told: [u64; 6]) -> u64 {
+    told.into_iter().fold(sum, mixed)
 }
 
 pub fn registers(sum: u64, state: &State) -> u64 {
     let all = (0..8).fold(sum, |sum, i| mixed(mixed(sum, u64::from(state.d[i])), u64::from(state.a[i])));
-    let f = state.flags;
-    mixed(all, [f.x, f.n, f.z, f.v, f.c].into_iter().fold(0, |sum, flag| sum * 2 + u64::from(flag)))
+    mixed(all, state.flags.ccr().into())
 }

@@ -2,7 +2,7 @@
 //! recipes made by hand; and rows of steps to translate those into.
 
 use crate::cases::Random;
-use crate::recipes::{Line, MOST, Recipe, VERBS, Verb, WIDTHS};
+use crate::recipes::{LINES_MAX, Line, Recipe, SLOTS, TEXT_MAX, VERBS, Verb, WIDTHS};
 use crate::steps::{Step, WILD, listing_of};
 
 /// A text before it is written out: lines of fields, the width line first.
@@ -70,7 +70,7 @@ pub const KINDS: [Kind; 39] = [
     kind("verb and any digits", Fields(any_digits)),
     kind("width line", Fields(|random, draft| draft.lines[0] = vec![random.pick(&WIDTH_LINES).into()])),
     kind("another width", Fields(|random, draft| draft.lines[0] = width_line(random.pick(&WIDTHS)))),
-    kind("33rd line begun", Whole(begun)),
+    kind("line too many begun", Whole(begun)),
     kind("any bytes", Whole(any_bytes)),
     kind("any words", Whole(any_words)),
     kind("long", Whole(long)),
@@ -164,13 +164,13 @@ fn width_line(width: u8) -> Vec<String> {
     vec!["width".into(), width.to_string()]
 }
 
-/// A sound draft, but for a 33rd line at times. One in eight is of one verb alone.
+/// A sound draft, but for a line too many at times. One in eight is of one verb alone.
 fn sound(random: &mut Random) -> Draft {
     let width = random.pick(&WIDTHS);
     let count = match random.below(4) {
         0 => random.below(5),
-        1 => random.pick(&[MOST - 1, MOST, MOST + 1]),
-        _ => random.below(MOST + 2),
+        1 => random.pick(&[LINES_MAX - 1, LINES_MAX, LINES_MAX + 1]),
+        _ => random.below(LINES_MAX + 2),
     };
     let only = (random.below(8) == 0).then(|| random.pick(&VERBS).0);
     let mut lines = vec![width_line(width)];
@@ -335,13 +335,13 @@ fn any_digits(random: &mut Random, draft: &mut Draft) {
     *draft.line(random) = line;
 }
 
-/// 32 lines, mostly sound, and the beginning of another, or more.
+/// As many lines as there may be, mostly sound, and the beginning of another, or more.
 fn begun(random: &mut Random) -> Vec<u8> {
     let mut draft = sound(random);
-    while draft.lines.len() < 1 + MOST {
+    while draft.lines.len() < 1 + LINES_MAX {
         draft.lines.push(sound_fields(random, draft.width));
     }
-    draft.lines.truncate(1 + MOST);
+    draft.lines.truncate(1 + LINES_MAX);
     if random.below(4) == 0 {
         any_digits(random, &mut draft);
     }
@@ -390,7 +390,7 @@ fn bytes_of_one_alphabet(random: &mut Random, count: usize) -> Vec<u8> {
 }
 
 fn any_bytes(random: &mut Random) -> Vec<u8> {
-    let most = random.pick(&[4, 40, 1101]);
+    let most = random.pick(&[4, 40, TEXT_MAX + 77]);
     let count = random.below(most);
     let mut text = headed(random);
     text.extend(bytes_of_one_alphabet(random, count));
@@ -416,9 +416,9 @@ fn any_words(random: &mut Random) -> Vec<u8> {
     text
 }
 
-/// Of about 1,024 bytes and more.
+/// Of about as many bytes as the program reads, and more.
 fn long(random: &mut Random) -> Vec<u8> {
-    let count = 980 + random.below(100);
+    let count = TEXT_MAX - 44 + random.below(100);
     let mut text = sound(random).bytes();
     match random.below(4) {
         0 => {
@@ -480,10 +480,10 @@ pub fn recipe(random: &mut Random) -> Recipe {
         _ => random.pick(&WIDTHS),
     };
     let count = match random.below(16) {
-        0 => random.pick(&[MOST + 1, 255, 256, 1 << 32, (1 << 32) + 1, usize::MAX - 1, usize::MAX]),
+        0 => random.pick(&[LINES_MAX + 1, 0xFF, 0x100, 1 << 32, (1 << 32) + 1, usize::MAX - 1, usize::MAX]),
         1 => random.below(41),
-        2 => MOST,
-        _ => random.below(MOST + 1),
+        2 => LINES_MAX,
+        _ => random.below(LINES_MAX + 1),
     };
     let unsound = random.pick(&[0, 1, 16]);
     let mut recipe = Recipe { width, count, ..Recipe::empty(width) };
@@ -494,12 +494,15 @@ pub fn recipe(random: &mut Random) -> Recipe {
     recipe
 }
 
-/// A row to translate into: of about so many slots as are needed, or of any number up to 300.
+/// The longest row to translate into, or to run: longer than a listing.
+pub const LONGEST: usize = SLOTS + 44;
+
+/// A row to translate into: of about so many slots as are needed, or of any number up to `LONGEST`.
 pub fn row(random: &mut Random, needed: usize) -> Vec<Step> {
     let length = match random.below(3) {
         0 => (needed + random.below(3)).saturating_sub(1),
-        1 => needed + random.below(301 - needed),
-        _ => random.below(301),
+        1 => needed + random.below(LONGEST + 1 - needed),
+        _ => random.below(LONGEST + 1),
     };
     let seeds = [random.bits() as u32, random.bits() as u32];
     seeds.into_iter().flat_map(|seed| listing_of(WILD, seed)).take(length).collect()

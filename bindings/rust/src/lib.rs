@@ -37,6 +37,7 @@
 compile_error!("the library is built for 64-bit machines only: Linux on x86-64 or Arm");
 
 mod alu;
+mod limits;
 mod listing;
 mod operations;
 mod recipe;
@@ -47,11 +48,11 @@ mod sys;
 mod types;
 
 pub use alu::*;
-pub use listing::{End, Listing, MOST_STEPS, Ran, TooLong, Trap, run, run_words};
+pub use limits::{MOST_LINES, MOST_STEPS, RECIPE_STEPS};
+pub use listing::{End, Listing, Ran, TooLong, Trap, run, run_words};
 pub use operations::{AddressOp, BitOp, OneOp, QuickOp, ShiftOp, TwoOp};
 pub use recipe::{
-    Line, MOST_LINES, Recipe, RecipeRun, Refused, Verb, answer, print, read, run_text, translate,
-    translate_into,
+    Line, Recipe, RecipeRun, Refused, Verb, answer, print, read, run_text, translate, translate_into,
 };
 pub use state::{NotSet, State};
 pub use step::{A, Count, D, Form, NoStep, Register, Step};

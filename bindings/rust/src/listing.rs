@@ -1,5 +1,6 @@
 //! Listings of steps, and runs with a budget.
 
+use crate::limits::MOST_STEPS;
 use crate::state::State;
 use crate::step::Step;
 use crate::sys;
@@ -7,17 +8,14 @@ use crate::types::Refusal;
 use std::error::Error;
 use std::fmt::{self, Display, Formatter};
 
-/// As many steps as a listing may have.
-pub const MOST_STEPS: usize = 256;
-
-/// At most 256 steps.
+/// At most [`MOST_STEPS`] steps.
 ///
 /// ```
-/// use gromavelush::{Listing, OneOp, D, Form, Size, Step};
+/// use gromavelush::{D, Form, Listing, MOST_STEPS, OneOp, Size, Step};
 ///
 /// let step = Step { size: Size::Long, form: Form::One(OneOp::Neg, D(0)) };
-/// assert_eq!(Listing::new(&[step; 256])?.steps().len(), 256);
-/// assert!(Listing::new(&[step; 257]).is_err());
+/// assert_eq!(Listing::new(&[step; MOST_STEPS])?.steps().len(), MOST_STEPS);
+/// assert!(Listing::new(&[step; MOST_STEPS + 1]).is_err());
 /// # Ok::<(), gromavelush::TooLong>(())
 /// ```
 #[derive(Clone, PartialEq, Eq, Hash, Default, Debug)]
@@ -158,8 +156,8 @@ pub fn run(listing: &Listing, state: &mut State, start: usize, budget: u32) -> R
     run_words(&listing.words, state, start, budget)
 }
 
-/// Runs a listing of words that come from elsewhere. Its first 256 words are its steps; one that names no step is
-/// refused with 2.
+/// Runs a listing of words that come from elsewhere. A longer one than [`MOST_STEPS`] is cut: it ends `Finished` there. A word
+/// that names no step is refused with 2.
 ///
 /// ```
 /// use gromavelush::{End, Refusal, State, run_words};

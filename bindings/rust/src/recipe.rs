@@ -1,18 +1,13 @@
 //! Counter recipes: read, translated, printed and run.
 
-use crate::listing::{Listing, MOST_STEPS};
+use crate::limits::{MOST_LINES, RECIPE_STEPS, ROOM};
+use crate::listing::Listing;
 use crate::state::State;
 use crate::step::Step;
 use crate::sys;
 use crate::types::{Flags, Refusal};
 use std::error::Error;
 use std::fmt::{self, Display, Formatter};
-
-/// As many lines as a recipe may have.
-pub const MOST_LINES: usize = 32;
-
-/// Bytes enough for what is printed of any listing.
-const ROOM: usize = 20_480;
 
 /// What a recipe line does. M is 2 to the power of 32 times the width.
 #[derive(Clone, Copy, PartialEq, Eq, Hash, Debug)]
@@ -109,7 +104,7 @@ impl Display for Line {
 pub struct Recipe {
     /// The width of its numbers: 1, 2 or 4 registers.
     pub width: u8,
-    /// Its lines, at most 32.
+    /// Its lines, at most [`MOST_LINES`].
     pub lines: Vec<Line>,
 }
 
@@ -160,8 +155,8 @@ impl Display for Refused {
 
 impl Error for Refused {}
 
-/// Reads a recipe text: `width`, a tab and 1, 2 or 4 on the first line, then up to 32 lines of a verb and its numbers. Fields
-/// are parted by one tab, and each line ends with byte 10.
+/// Reads a recipe text: `width`, a tab and 1, 2 or 4 on the first line, then up to [`MOST_LINES`] lines of a verb and its
+/// numbers. Fields are parted by one tab, and each line ends with byte 10.
 ///
 /// ```
 /// use gromavelush::{Refusal, read};
@@ -200,7 +195,7 @@ fn translate_words(recipe: &Recipe, words: &mut [u64]) -> Result<usize, Refused>
 /// # Ok::<(), gromavelush::Refused>(())
 /// ```
 pub fn translate(recipe: &Recipe) -> Result<Listing, Refused> {
-    let mut words = [0; MOST_STEPS];
+    let mut words = [0; RECIPE_STEPS];
     let steps = translate_words(recipe, &mut words)?;
     Ok(Listing::written(words.get(..steps).unwrap_or(&words)))
 }
@@ -221,8 +216,8 @@ pub fn translate(recipe: &Recipe) -> Result<Listing, Refused> {
 /// # Ok::<(), gromavelush::Refused>(())
 /// ```
 pub fn translate_into(recipe: &Recipe, slots: &mut [Step]) -> Result<usize, Refused> {
-    let mut words = [0; MOST_STEPS];
-    let length = slots.len().min(MOST_STEPS);
+    let mut words = [0; RECIPE_STEPS];
+    let length = slots.len().min(RECIPE_STEPS);
     let row = words.get_mut(..length).unwrap_or_default();
     let steps = translate_words(recipe, row)?;
     for (slot, &word) in slots.iter_mut().zip(&words).take(steps) {

@@ -1,6 +1,8 @@
 //! The library's C functions, made safe. `bindings/c/gromavelush.h` says what each one does, and what its caller must
 //! keep. `unsafe` stands here alone.
 
+use crate::limits::MOST_LINES;
+
 mod c {
     unsafe extern "C" {
         /// Numbers in, a number out: it reads and writes no memory of ours, hence safe.
@@ -78,19 +80,18 @@ pub fn listing_print(width: u8, listing: &[u64], out: &mut [u8]) -> usize {
     unsafe { c::listing_print(width, listing.as_ptr(), listing.len(), out.as_mut_ptr(), out.len()) }
 }
 
-pub fn recipe_read(text: &[u8]) -> ([u32; 32], [u64; 4]) {
-    let (mut lines, mut told) = ([0; 32], [0; 4]);
+pub fn recipe_read(text: &[u8]) -> ([u32; MOST_LINES], [u64; 4]) {
+    let (mut lines, mut told) = ([0; MOST_LINES], [0; 4]);
     // SAFETY: `text` is a slice, handed over with its own length; the two rows that are written are ours and have the
     // lengths that the function takes. It keeps no pointer.
     unsafe { c::recipe_read(text.as_ptr(), text.len(), lines.as_mut_ptr(), told.as_mut_ptr()) };
     (lines, told)
 }
 
-pub fn recipe_translate(width: u8, count: usize, lines: &[u32; 32], listing: &mut [u64]) -> [u64; 3] {
+pub fn recipe_translate(width: u8, count: usize, lines: &[u32; MOST_LINES], listing: &mut [u64]) -> [u64; 3] {
     let mut told = [0; 3];
-    // SAFETY: `lines` has the 32 words that the function takes, whatever `count` is; `listing` is handed over with its
-    // own length and is borrowed mutably, and `told` is ours, so no row that is written overlaps another. It keeps no
-    // pointer.
+    // SAFETY: `lines` has as many words as the function takes, whatever `count` is; `listing` is handed over with its own
+    // length and is borrowed mutably, and `told` is ours, so no row that is written overlaps another. It keeps no pointer.
     unsafe {
         c::recipe_translate(
             width,

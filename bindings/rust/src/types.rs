@@ -1,5 +1,6 @@
 //! Sizes, flags and refusals.
 
+use crate::limits::{MOST_LINES, MOST_STEPS, RECIPE_STEPS};
 use std::error::Error;
 use std::fmt::{self, Display, Formatter};
 
@@ -114,7 +115,7 @@ pub enum Refusal {
     NoSuchNumber = 6,
     /// 7: a number is copied onto itself.
     OntoItself = 7,
-    /// 8: a recipe line after the 32nd.
+    /// 8: more recipe lines than [`MOST_LINES`].
     TooManyLines = 8,
     /// 9: there are fewer slots than the recipe's listing has steps.
     NoSpace = 9,
@@ -147,35 +148,40 @@ impl Refusal {
         let at = usize::try_from(number).ok()?.checked_sub(1)?;
         Refusal::ALL.get(at).copied()
     }
-
-    fn words(self) -> &'static str {
-        match self {
-            Refusal::BadSmall => {
-                "a small number is out of its range; use 1 to 8, for a bit 0 to 31, for a call of ROXL or ROXR 0 to 63"
-            }
-            Refusal::NoSuchSize => {
-                "the operation hasn't this size, or the word names no step; use a size that it has"
-            }
-            Refusal::NoSuchRegister => "there is no such register; use 0 to 7",
-            Refusal::WidthLine => "the width line is wrong; begin with `width`, a tab, and 1, 2 or 4",
-            Refusal::Syntax => {
-                "the line is wrong; write a verb and its numbers, one digit each, one tab between, and end it with byte 10"
-            }
-            Refusal::NoSuchNumber => {
-                "there is no such number; use 0 to 7 at width 1, 0 to 3 at width 2, 0 or 1 at width 4"
-            }
-            Refusal::OntoItself => "a number can't be copied onto itself; leave the line out",
-            Refusal::TooManyLines => "the recipe has more than 32 lines; make two of it",
-            Refusal::NoSpace => "the listing has too few slots; 256 are enough for any recipe",
-            Refusal::StartPastEnd => "the start place is past the end of the listing; a listing ends at 256",
-        }
-    }
 }
 
 /// The number, and what to do.
 impl Display for Refusal {
     fn fmt(&self, f: &mut Formatter) -> fmt::Result {
-        write!(f, "refused with {}: {}", self.number(), self.words())
+        write!(f, "refused with {}: ", self.number())?;
+        match self {
+            Refusal::BadSmall => f.write_str(
+                "a small number is out of its range; use 1 to 8, for a bit 0 to 31, for a call of ROXL or ROXR 0 to 63",
+            ),
+            Refusal::NoSuchSize => {
+                f.write_str("the operation hasn't this size, or the word names no step; use a size that it has")
+            }
+            Refusal::NoSuchRegister => f.write_str("there is no such register; use 0 to 7"),
+            Refusal::WidthLine => {
+                f.write_str("the width line is wrong; begin with `width`, a tab, and 1, 2 or 4")
+            }
+            Refusal::Syntax => f.write_str(
+                "the line is wrong; write a verb and its numbers, one digit each, one tab between, and end it with byte 10",
+            ),
+            Refusal::NoSuchNumber => f.write_str(
+                "there is no such number; use 0 to 7 at width 1, 0 to 3 at width 2, 0 or 1 at width 4",
+            ),
+            Refusal::OntoItself => f.write_str("a number can't be copied onto itself; leave the line out"),
+            Refusal::TooManyLines => {
+                write!(f, "the recipe has more than {MOST_LINES} lines; make two of it")
+            }
+            Refusal::NoSpace => {
+                write!(f, "the listing has too few slots; {RECIPE_STEPS} are enough for any recipe")
+            }
+            Refusal::StartPastEnd => {
+                write!(f, "the start place is past the end of the listing; a listing ends at {MOST_STEPS}")
+            }
+        }
     }
 }
 

@@ -3,17 +3,15 @@
 //!
 //!   growth [TURNS]   the best of so many turns, port and reading in turn
 
+use compare::c_functions::recipe_answer;
 use compare::ported_recipes as ported;
-use compare::recipes::{VERBS, WIDTHS, answer, read, translate};
+use compare::recipes::{LINES_MAX, PRINT_MAX, SLOTS, VERBS, WIDTHS, answer, read, translate};
 use compare::timing::{Way, best};
 use std::cell::RefCell;
 use std::hint::black_box;
 use std::process::ExitCode;
 
-const LINES: [usize; 7] = [0, 1, 2, 4, 8, 16, 32];
-
-/// The program's row for what it prints.
-const OUT: usize = 20_480;
+const LINES: [usize; 7] = [0, 1, 2, 4, 8, 16, LINES_MAX];
 
 /// A text whose lines have the verbs in turn, from the one numbered `first` on.
 fn text(width: u8, lines: usize, first: usize) -> Vec<u8> {
@@ -34,9 +32,9 @@ fn texts(width: u8, lines: usize) -> Vec<Vec<u8>> {
 
 /// Whether each is a recipe of so many lines, of which port and reading print the same.
 fn agree(texts: &[Vec<u8>], lines: usize) -> bool {
-    let mut out = vec![0; OUT];
+    let mut out = vec![0; PRINT_MAX];
     texts.iter().all(|text| {
-        let length = ported::answer(text, &mut out);
+        let length = recipe_answer(text, &mut out);
         out[..length] == *answer(text).as_bytes() && read(text).is_ok_and(|recipe| recipe.count == lines)
     })
 }
@@ -69,21 +67,22 @@ impl<T> Load<T> {
 }
 
 fn to_read(texts: &Load<Vec<u8>>, turns: u32) -> Option<Costs> {
-    let port = || texts.turn(|text| black_box(ported::read(text)).1.count);
+    let port = || texts.turn(|text| ported::lines_read(text));
     let reading = || texts.turn(|text| black_box(read(text)).map_or(0, |recipe| recipe.count));
     texts.costs(turns, &port, &reading)
 }
 
 fn to_translate(texts: &Load<Vec<u8>>, turns: u32) -> Option<Costs> {
-    let recipes = Load { of: texts.of.iter().map(|text| ported::read(text).1).collect(), times: texts.times };
-    let port = || recipes.turn(ported::translated);
-    let reading = || recipes.turn(|recipe| black_box(translate(recipe, 256)).map_or(0, |steps| steps.len()));
+    let recipes = Load { of: texts.of.iter().flat_map(|text| read(text)).collect(), times: texts.times };
+    let port = || recipes.turn(ported::steps_laid);
+    let reading =
+        || recipes.turn(|recipe| black_box(translate(recipe, SLOTS)).map_or(0, |steps| steps.len()));
     recipes.costs(turns, &port, &reading)
 }
 
 fn to_answer(texts: &Load<Vec<u8>>, turns: u32) -> Option<Costs> {
-    let out = RefCell::new(vec![0; OUT]);
-    let port = || texts.turn(|text| ported::answer(text, &mut out.borrow_mut()));
+    let out = RefCell::new(vec![0; PRINT_MAX]);
+    let port = || texts.turn(|text| recipe_answer(text, &mut out.borrow_mut()));
     let reading = || texts.turn(|text| black_box(answer(text)).len());
     texts.costs(turns, &port, &reading)
 }

@@ -1,12 +1,15 @@
-//! Runs of step listings: the port's three ways (`run_array`, `run` over a slice, single steps by `perform_in`) against a
-//! hand-tuned Rust loop and, where every step is done, against a loop through the crate's exec functions.
+//! Runs of step listings: the port's ways (the C function `listing_run`, or to measure `run_array`, which it stands on;
+//! `run` over a slice; single steps by `perform_in`) against a hand-tuned Rust loop and, where every step is done, against
+//! a loop through the crate's exec functions.
 //!
 //!   runs agree [LISTINGS]   that all answer the same, on random listings
-//!   runs speed [ROUNDS]     nanoseconds a step of a listing of 256 mixed steps, and of each kind alone
+//!   runs speed [ROUNDS]     nanoseconds a step of a whole array of mixed steps, and of each kind alone
 //!   runs growth [TURNS]     nanoseconds a run and a step of mixed listings of 1 to 65,536 steps
 
+use compare::c_functions::listing_run;
 use compare::machine::Machine;
 use compare::ported;
+use compare::recipes::SLOTS;
 use compare::steps::{FIRST, MIXED, Ran, State, Step, WILD, answered, listing_of, registers, steps_of};
 use compare::timing::{Way, best};
 use compare::tuned;
@@ -25,39 +28,44 @@ struct Laps {
 }
 
 /// A run of a listing's first steps: listing, how many, state, start place, budget.
-type Run = fn(&[Step; 256], usize, &mut State, usize, u32) -> Ran;
+type Run = fn(&[Step; SLOTS], usize, &mut State, usize, u32) -> Ran;
 
-fn slice(listing: &[Step; 256], count: usize, state: &mut State, start: usize, budget: u32) -> Ran {
+fn slice(listing: &[Step; SLOTS], count: usize, state: &mut State, start: usize, budget: u32) -> Ran {
     ported::run(&listing[..count], state, start, budget)
 }
 
 /// By single steps, of a copy of the listing that the port itself has written.
-fn steps(listing: &[Step; 256], count: usize, state: &mut State, start: usize, budget: u32) -> Ran {
+fn steps(listing: &[Step; SLOTS], count: usize, state: &mut State, start: usize, budget: u32) -> Ran {
     ported::by_steps(&ported::stored(listing)[..count], state, start, budget)
 }
 
-fn by_hand(listing: &[Step; 256], count: usize, state: &mut State, start: usize, budget: u32) -> Ran {
+fn by_hand(listing: &[Step; SLOTS], count: usize, state: &mut State, start: usize, budget: u32) -> Ran {
     tuned::run(&listing[..count], state, start, budget)
 }
 
 impl Laps {
+    /// A digest of what is told of each round.
+    fn summed(self, mut run: impl FnMut() -> [u64; 6]) -> u64 {
+        (0..self.rounds).fold(0, |sum, _| answered(sum, run()))
+    }
+
     fn digest(self, run: Run) -> u64 {
-        let listing = listing_of(self.kinds, self.seed);
-        let mut state: State = FIRST;
-        let mut sum = 0;
-        for _ in 0..self.rounds {
-            sum = answered(sum, &run(&listing, self.count, &mut state, self.start, self.budget));
-        }
+        let (listing, mut state) = (listing_of(self.kinds, self.seed), FIRST);
+        let sum = self.summed(|| run(&listing, self.count, &mut state, self.start, self.budget).told());
+        registers(sum, &state)
+    }
+
+    /// By the C function, of the steps in words.
+    fn in_words(self) -> u64 {
+        let (listing, mut state) = (listing_of(self.kinds, self.seed), FIRST);
+        let words: Vec<u64> = listing[..self.count].iter().map(Step::word).collect();
+        let sum = self.summed(|| listing_run(&words, &mut state, self.start, self.budget));
         registers(sum, &state)
     }
 
     fn source(self) -> u64 {
-        let listing = listing_of(self.kinds, self.seed);
-        let mut machine = Machine::new(FIRST);
-        let mut sum = 0;
-        for _ in 0..self.rounds {
-            sum = answered(sum, &machine.run(&listing[..self.count], self.start, self.budget));
-        }
+        let (listing, mut machine) = (listing_of(self.kinds, self.seed), Machine::new(FIRST));
+        let sum = self.summed(|| machine.run(&listing[..self.count], self.start, self.budget).told());
         registers(sum, &machine.state())
     }
 }
@@ -65,12 +73,12 @@ impl Laps {
 /// A listing's digest, from everyone who can run it; false if two differ.
 fn agrees(laps: Laps) -> bool {
     let want = laps.digest(by_hand);
-    let ported = [ported::run_array, slice, steps].map(|run: Run| laps.digest(run));
+    let ported = [laps.in_words(), laps.digest(slice), laps.digest(steps)];
     let crates = laps.kinds == WILD || laps.start > laps.count || laps.source() == want;
     let good = crates && ported.iter().all(|&got| got == want);
     if !good {
         println!(
-            "DIFFERS: seed {} kinds {} count {} start {} budget {}: tuned {want}, array, slice, steps {ported:?}, crate {}",
+            "DIFFERS: seed {} kinds {} count {} start {} budget {}: tuned {want}, words, slice, steps {ported:?}, crate {}",
             laps.seed,
             laps.kinds,
             laps.count,
@@ -85,7 +93,7 @@ fn agrees(laps: Laps) -> bool {
 fn agree(listings: u32) -> ExitCode {
     let (mut differ, mut steps) = (0u64, 0u64);
     for seed in 0..listings {
-        let count = (seed % 257) as usize;
+        let count = seed as usize % (SLOTS + 1);
         let laps = Laps {
             kinds: if seed % 2 == 0 { MIXED } else { WILD },
             seed: seed.wrapping_mul(2_654_435_761),
@@ -116,7 +124,7 @@ fn speed(rounds: u32) -> ExitCode {
     println!("ns a step; ratios of the port to the crate's loop and to the tuned loop");
     println!("steps\tarray\tslice\tcrate\ttuned\tarray/crate\tslice/crate\tarray/tuned\tslice/tuned");
     for (name, kinds) in KINDS {
-        let laps = Laps { kinds, seed: 1, rounds, count: 256, start: 0, budget: 100_000 };
+        let laps = Laps { kinds, seed: 1, rounds, count: SLOTS, start: 0, budget: 100_000 };
         let Some(best) = best(
             7,
             &[&|| laps.digest(ported::run_array), &|| laps.digest(slice), &|| laps.source(), &|| {
@@ -126,7 +134,7 @@ fn speed(rounds: u32) -> ExitCode {
             println!("DIFFERS: {name}");
             return ExitCode::FAILURE;
         };
-        let ns: Vec<f64> = best.iter().map(|s| s / f64::from(rounds) / 256.0 * 1e9).collect();
+        let ns: Vec<f64> = best.iter().map(|s| s / f64::from(rounds) / SLOTS as f64 * 1e9).collect();
         println!(
             "{name}\t{:.2}\t{:.2}\t{:.2}\t{:.2}\t{:.2}\t{:.2}\t{:.2}\t{:.2}",
             ns[0],
@@ -152,10 +160,10 @@ const LENGTHS: [(usize, usize); 15] = [
     (32, 32),
     (64, 64),
     (128, 128),
-    (256, 256),
-    (1024, 256),
-    (4096, 256),
-    (65_536, 256),
+    (SLOTS, SLOTS),
+    (1024, SLOTS),
+    (4096, SLOTS),
+    (65_536, SLOTS),
     (1024, 1024),
     (4096, 4096),
     (65_536, 65_536),
@@ -180,7 +188,7 @@ fn repeated(times: usize, mut run: impl FnMut() -> Ran) -> u64 {
     (1..times).for_each(|_| {
         black_box(run());
     });
-    answered(0, &run())
+    answered(0, run().told())
 }
 
 /// The same by a run that takes the state.
@@ -196,10 +204,10 @@ fn carried_by_crate(times: usize, listing: &[Step]) -> u64 {
     registers(sum, &machine.state())
 }
 
-/// Nanoseconds a run of a listing by each of `WAYS`; the last can't run a longer listing than 256.
+/// Nanoseconds a run of a listing by each of `WAYS`; the last can't run one that is longer than an array.
 fn run_costs(listing: &[Step], turns: u32) -> Option<Vec<f64>> {
     let (times, count) = (times(listing.len()), listing.len());
-    let mut array = [listing[0]; 256];
+    let mut array = [listing[0]; SLOTS];
     array.iter_mut().zip(listing).for_each(|(slot, step)| *slot = *step);
     let [lent, tuned]: [Lent; 2] = black_box([ported::run, tuned::run]);
     let by_value: Run = black_box(ported::run_array);
@@ -209,7 +217,7 @@ fn run_costs(listing: &[Step], turns: u32) -> Option<Vec<f64>> {
         &|| carried(times, |state| tuned(listing, state, 0, u32::MAX)),
         &|| carried(times, |state| by_value(&array, count, state, 0, u32::MAX)),
     ];
-    let seconds = best(turns, if count <= 256 { &ways } else { &ways[..3] })?;
+    let seconds = best(turns, if count <= SLOTS { &ways } else { &ways[..3] })?;
     Some(seconds.iter().map(|s| s / times as f64 * 1e9).collect())
 }
 

@@ -1,14 +1,14 @@
-//! Listings of any words, of 0 to 300 of them, from any place with any budget: run and printed.
+//! Listings of any words, some longer than a listing is run, from any place with any budget: run and printed.
 
 use crate::cases::Random;
 use crate::raw::{self, Registers, Row};
-use crate::steps::{
-    Adr, Bit, Count, End, Flags, Form, One, Quick, Ran, Register, Shift, Size, State, Step, Two,
-};
+use crate::recipes::SLOTS;
+use crate::steps::{Adr, Bit, Count, Flags, Form, One, Quick, Register, Shift, Size, State, Step, Two};
 use crate::steps::{MIXED, WILD, listing_of};
 use crate::tally::Tally;
+use crate::texts::LONGEST;
 use crate::tuned;
-use crate::written::{ccr, holds, safe_state, some_room, some_state};
+use crate::written::{holds, safe_state, some_room, some_state};
 use gromavelush as safe;
 
 const TWO: [Two; 5] = [Two::Add, Two::Sub, Two::Cmp, Two::Addx, Two::Subx];
@@ -53,24 +53,6 @@ fn step_of(word: u64) -> Step {
     }
 }
 
-/// The word of a step.
-pub fn word_of(step: &Step) -> u64 {
-    let (operation, kind, from, to) = match step.form {
-        Form::Two(op, from, to) => (op as u8, 2, from, to),
-        Form::Address(op, Register::Data(from), to) => (5 + op as u8, 2, from, to),
-        Form::Address(op, Register::Address(from), to) => (5 + op as u8, 3, from, to),
-        Form::Quick(op, small, Register::Data(to)) => (8 + op as u8, 1, small, to),
-        Form::Quick(op, small, Register::Address(to)) => (10 + op as u8, 1, small, to),
-        Form::One(op, to) => (12 + op as u8, 0, 0, to),
-        Form::Shift(op, Count::Small(small), to) => (17 + op as u8, 1, small, to),
-        Form::Shift(op, Count::Data(from), to) => (17 + op as u8, 2, from, to),
-        Form::Bit(op, Count::Small(small), to) => (25 + op as u8, 1, small, to),
-        Form::Bit(op, Count::Data(from), to) => (25 + op as u8, 2, from, to),
-        Form::Chk(from, to) => (29, 2, from, to),
-    };
-    u64::from_le_bytes([operation, step.size as u8, kind, from, to, 0, 0, 0])
-}
-
 /// Words of steps that are all done, of some that are refused or trap, with a byte changed here and there, or any.
 fn some_words(random: &mut Random) -> Vec<u64> {
     let kinds = random.pick(&[MIXED, WILD]);
@@ -78,11 +60,11 @@ fn some_words(random: &mut Random) -> Vec<u64> {
     let seeds = [random.bits() as u32, random.bits() as u32];
     let steps = seeds.into_iter().flat_map(|seed| listing_of(kinds, seed));
     let length = match random.below(8) {
-        0 => random.pick(&[0, 1, 255, 256, 257, 300]),
-        _ => random.below(301),
+        0 => random.pick(&[0, 1, SLOTS - 1, SLOTS, SLOTS + 1, LONGEST]),
+        _ => random.below(LONGEST + 1),
     };
     let words = steps.take(length).map(|step| {
-        let word = word_of(&step);
+        let word = step.word();
         match random.below(64) {
             0 if how == 1 => word ^ 1 << random.below(40),
             1 if how == 1 => word & !(0xFF << 16) | random.bits() & 0xFF << 16,
@@ -92,21 +74,6 @@ fn some_words(random: &mut Random) -> Vec<u64> {
         }
     });
     words.collect()
-}
-
-fn end_words(end: End) -> [u64; 3] {
-    const NUMBERS: [u64; 4] = [1, 2, 3, 10];
-    match end {
-        End::Finished => [0, 0, 0],
-        End::Budget => [1, 0, 0],
-        End::Trapped(class, place) => [2, 1 + class as u64, place as u64],
-        End::Refused(fault, place) => [3, NUMBERS[fault as usize], place as u64],
-    }
-}
-
-fn told_of(ran: &Ran) -> [u64; 6] {
-    let [end, which, place] = end_words(ran.end);
-    [end, which, place, ran.next as u64, ran.steps.into(), ran.clocks]
 }
 
 fn told_of_safe(ran: &safe::Ran) -> [u64; 6] {
@@ -122,7 +89,7 @@ fn told_of_safe(ran: &safe::Ran) -> [u64; 6] {
 fn some_start(random: &mut Random, length: usize) -> usize {
     match random.below(8) {
         0 => length,
-        1 => random.pick(&[length + 1, 256, 257, usize::MAX, 1 << 32]),
+        1 => random.pick(&[length + 1, SLOTS, SLOTS + 1, usize::MAX, 1 << 32]),
         2 => random.below(length + 1),
         3 => random.bits() as usize,
         _ => 0,
@@ -132,7 +99,7 @@ fn some_start(random: &mut Random, length: usize) -> usize {
 fn some_budget(random: &mut Random) -> u32 {
     match random.below(4) {
         0 => random.below(12) as u32,
-        1 => random.below(300) as u32,
+        1 => random.below(LONGEST) as u32,
         2 => random.bits() as u32,
         _ => u32::MAX,
     }
@@ -151,11 +118,11 @@ fn try_run(random: &mut Random, words: &Row<u64>, steps: &[Step], tally: &mut Ta
     let (start, budget) = (some_start(random, words.get().len()), some_budget(random));
     let before = some_state(random);
     let mut after = before;
-    let should = told_of(&tuned::run(steps, &mut after, start, budget));
+    let should = tuned::run(steps, &mut after, start, budget).told();
     let dirt = random.bits() as u8 & 0xE0;
-    let mut on = Registers::of(&before.d, &before.a, ccr(before.flags) | dirt);
+    let mut on = Registers::of(&before.d, &before.a, before.flags.ccr() | dirt);
     let raw::Told(told, whole) = raw::run(words, &mut on, start, budget);
-    let left = (on.d.get(), on.a.get(), on.flags.get()) == (&after.d, &after.a, &[ccr(after.flags)]);
+    let left = (on.d.get(), on.a.get(), on.flags.get()) == (&after.d, &after.a, &[after.flags.ccr()]);
     tally.called("listing_run");
     counted(should, tally);
     tally.agrees(told == should && left && whole && on.is_intact() && words.is_intact(), || {
@@ -256,7 +223,7 @@ fn try_print(random: &mut Random, words: &Row<u64>, steps: &[Step], tally: &mut 
 fn try_words(words: &[u64], tally: &mut Tally) {
     for &word in words.iter().take(8) {
         let step = step_of(word);
-        let is_its_word = word_of(&step) == word;
+        let is_its_word = step.word() == word;
         let got = safe::Step::try_from(word);
         tally.agrees(got.is_ok() == is_its_word, || format!("Step::try_from({word:x}): {got:?}"));
     }
@@ -264,7 +231,7 @@ fn try_words(words: &[u64], tally: &mut Tally) {
 
 pub fn try_one(random: &mut Random, tally: &mut Tally) {
     let words = Row::of(&some_words(random), 0xA5A5_A5A5_A5A5_A5A5);
-    let steps: Vec<Step> = words.get().iter().take(256).map(|&word| step_of(word)).collect();
+    let steps: Vec<Step> = words.get().iter().take(SLOTS).map(|&word| step_of(word)).collect();
     try_words(words.get(), tally);
     try_run(random, &words, &steps, tally);
     if random.below(4) == 0 {

@@ -128,7 +128,7 @@ pub fn read(text: &[u8], lines: &mut Row<u32>) -> Told<4> {
 pub fn translate(width: u8, count: usize, lines: &Row<u32>, listing: &mut Row<u64>) -> Told<3> {
     let mut row = Row::marked(3, MARK);
     let slots = listing.get_mut();
-    // SAFETY: `lines` has 32 words, the listing its own length, `row` the length that the function takes; none overlap.
+    // SAFETY: the listing has its own length, `lines` and `row` the lengths that the function takes; none overlap.
     unsafe {
         recipe_translate(
             width,

@@ -1,13 +1,11 @@
-//! Recipes in words: any width, any count, any bytes, into rows of 0 to 300 slots.
+//! Recipes in words: any width, any count, any bytes, into rows of any length up to `LONGEST`.
 
 use crate::cases::Random;
-use crate::listings::word_of;
 use crate::raw::{self, Row};
-use crate::recipes::{self, Line, MOST, Recipe, Refused, VERBS};
+use crate::recipes::{self, LINES_MAX, Line, Recipe, Refused, STEPS_MAX, VERBS};
 use crate::steps::Step;
 use crate::tally::Tally;
-use crate::texts;
-use crate::written::line_word;
+use crate::texts::{self, LONGEST};
 use gromavelush as safe;
 
 /// Lines as words: those of a recipe made by hand, with dirt where it doesn't count; one in eight with a byte changed.
@@ -15,7 +13,7 @@ fn some_words(random: &mut Random, recipe: &Recipe) -> Vec<u32> {
     let damaged = random.below(8) == 0;
     let word = |line: &Line| {
         let dirt = (random.bits() as u32) << 24;
-        let word = line_word(line) | dirt;
+        let word = line.word() | dirt;
         match random.below(16) {
             0 if damaged => word ^ 1 << random.below(32),
             1 if damaged => random.bits() as u32,
@@ -39,10 +37,10 @@ fn wanted(width: u8, count: usize, words: &[u32], slots: usize) -> Result<Vec<St
     for (to, line) in recipe.lines.iter_mut().zip(lines.iter().flatten()) {
         *to = *line;
     }
-    if count > MOST {
+    if count > LINES_MAX {
         recipe.count = count;
     } else if known < count {
-        return match recipes::translate(&recipe, 256) {
+        return match recipes::translate(&recipe, STEPS_MAX) {
             Ok(_) => Err(Refused { number: 5, line: known + 2 }),
             refused => refused,
         };
@@ -53,7 +51,7 @@ fn wanted(width: u8, count: usize, words: &[u32], slots: usize) -> Result<Vec<St
 fn try_raw(random: &mut Random, recipe: &Recipe, tally: &mut Tally) {
     let (width, count) = (recipe.width, recipe.count);
     let words = some_words(random, recipe);
-    let needed = wanted(width, count, &words, 256).map_or(0, |steps| steps.len());
+    let needed = wanted(width, count, &words, STEPS_MAX).map_or(0, |steps| steps.len());
     let length = texts::row(random, needed).len();
     let want = wanted(width, count, &words, length);
     let mark = random.bits();
@@ -64,7 +62,8 @@ fn try_raw(random: &mut Random, recipe: &Recipe, tally: &mut Tally) {
         Err(refused) => ([refused.number.into(), refused.line as u64, 0], &[][..]),
     };
     let (front, rest) = listing.get().split_at(steps.len());
-    let filled = front.iter().copied().eq(steps.iter().map(word_of)) && rest.iter().all(|&word| word == mark);
+    let filled =
+        front.iter().copied().eq(steps.iter().map(Step::word)) && rest.iter().all(|&word| word == mark);
     tally.called("recipe_translate");
     tally.refused(should[0]);
     let intact = whole && listing.is_intact() && lines.is_intact() && lines.get() == words;
@@ -82,7 +81,7 @@ fn safe_recipe(recipe: &Recipe) -> safe::Recipe {
 
 fn try_safe(random: &mut Random, recipe: &Recipe, tally: &mut Tally) {
     let made = safe_recipe(recipe);
-    let length = random.below(301);
+    let length = random.below(LONGEST + 1);
     let told = |refused: safe::Refused| Refused { number: refused.refusal.number(), line: refused.line };
     let blank = safe::Step {
         size: safe::Size::Word,
@@ -92,7 +91,7 @@ fn try_safe(random: &mut Random, recipe: &Recipe, tally: &mut Tally) {
     let into = safe::translate_into(&made, &mut slots).map_err(told);
     let want = recipes::translate(recipe, length);
     let steps = want.clone().unwrap_or_default();
-    let filled = slots.iter().map(|step| step.word()).zip(steps.iter().map(word_of)).all(|(a, b)| a == b);
+    let filled = slots.iter().map(|step| step.word()).zip(steps.iter().map(Step::word)).all(|(a, b)| a == b);
     let rest = slots[steps.len()..].iter().all(|slot| *slot == blank);
     tally.called("translate, translate_into");
     tally.refused(want.as_ref().err().map_or(0, |refused| refused.number.into()));
@@ -100,7 +99,8 @@ fn try_safe(random: &mut Random, recipe: &Recipe, tally: &mut Tally) {
         format!("translate_into {made:?} into {length}: {into:?}")
     });
     let whole = safe::translate(&made).map(|listing| listing.words().to_vec()).map_err(told);
-    let want = recipes::translate(recipe, 256).map(|steps| steps.iter().map(word_of).collect::<Vec<u64>>());
+    let want =
+        recipes::translate(recipe, STEPS_MAX).map(|steps| steps.iter().map(Step::word).collect::<Vec<u64>>());
     tally.called("translate, translate_into");
     tally.agrees(whole == want, || format!("translate {made:?}: {whole:x?}"));
 }

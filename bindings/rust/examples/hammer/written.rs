@@ -2,7 +2,7 @@
 
 use crate::cases::Random;
 use crate::raw::{self, Registers, Row};
-use crate::recipes::{self, Recipe, Refused, Verb};
+use crate::recipes::{self, LINES_MAX, Line, PRINT_MAX, Recipe, Refused, STEPS_MAX, Verb};
 use crate::steps::{Flags, State};
 use crate::tally::Tally;
 use crate::texts::KINDS;
@@ -10,37 +10,23 @@ use crate::tuned;
 use gromavelush as safe;
 
 pub fn some_state(random: &mut Random) -> State {
-    let bits = random.bits();
-    let flag = |at: u32| bits >> at & 1 == 1;
-    State {
-        d: std::array::from_fn(|_| random.number()),
-        a: std::array::from_fn(|_| random.number()),
-        flags: Flags { x: flag(0), n: flag(1), z: flag(2), v: flag(3), c: flag(4) },
-    }
-}
-
-pub fn ccr(flags: Flags) -> u8 {
-    [flags.x, flags.n, flags.z, flags.v, flags.c].into_iter().fold(0, |sum, flag| sum * 2 + u8::from(flag))
+    let flags = Flags::of(random.bits() as u8);
+    State { d: std::array::from_fn(|_| random.number()), a: std::array::from_fn(|_| random.number()), flags }
 }
 
 pub fn safe_state(state: &State) -> safe::State {
-    safe::State { d: state.d, a: state.a, flags: safe::Flags::of(ccr(state.flags)) }
-}
-
-/// A line as the library packs it.
-pub fn line_word(line: &recipes::Line) -> u32 {
-    u32::from_le_bytes([line.verb as u8, line.a, line.b, 0])
+    safe::State { d: state.d, a: state.a, flags: safe::Flags::of(state.flags.ccr()) }
 }
 
 fn try_reading(text: &[u8], want: &Result<Recipe, Refused>, tally: &mut Tally) {
-    let mut lines = Row::marked(32, 0xA5A5_A5A5);
+    let mut lines = Row::marked(LINES_MAX, 0xA5A5_A5A5);
     let raw::Told(told, whole) = raw::read(text, &mut lines);
     let (refused, recipe) = match want {
         Ok(recipe) => (Refused { number: 0, line: 0 }, *recipe),
         Err(refused) => (*refused, Recipe::empty(1)),
     };
     let should = [refused.number.into(), refused.line as u64, recipe.width.into(), recipe.count as u64];
-    let words: Vec<u32> = recipe.lines.iter().map(line_word).collect();
+    let words: Vec<u32> = recipe.lines.iter().map(Line::word).collect();
     tally.called("recipe_read");
     tally.refused(refused.number.into());
     tally.agrees(told == should && lines.get() == words && whole && lines.is_intact(), || {
@@ -60,7 +46,7 @@ pub fn some_room(random: &mut Random, needed: usize) -> usize {
         0 => random.below(needed + 1),
         1 => needed,
         2 => needed + random.below(9),
-        _ => 20_480,
+        _ => PRINT_MAX,
     }
 }
 
@@ -94,21 +80,21 @@ fn ran(recipe: &Result<Recipe, Refused>, mut state: State) -> ([u64; 5], State, 
     let recipe = match recipe {
         Ok(recipe) => recipe,
         Err(refused) => {
-            return ([refused.number.into(), refused.line as u64, 31, 0, 0], state, ccr(state.flags));
+            return ([refused.number.into(), refused.line as u64, 31, 0, 0], state, state.flags.ccr());
         }
     };
-    let listing = recipes::translate(recipe, 256).unwrap_or_default();
+    let listing = recipes::translate(recipe, STEPS_MAX).unwrap_or_default();
     let ran = tuned::run(&listing, &mut state, 0, u32::MAX);
     let last = recipe.lines[..recipe.count].last().map(|line| line.verb);
     let promised = if matches!(last, None | Some(Verb::Add | Verb::Sub | Verb::Neg)) { 31 } else { 16 };
-    ([0, 0, promised, ran.steps.into(), ran.clocks], state, ccr(state.flags) & promised as u8)
+    ([0, 0, promised, ran.steps.into(), ran.clocks], state, state.flags.ccr() & promised as u8)
 }
 
 fn try_run(random: &mut Random, text: &[u8], recipe: &Result<Recipe, Refused>, tally: &mut Tally) {
     let before = some_state(random);
     let (should, after, flags) = ran(recipe, before);
     let dirt = random.bits() as u8 & 0xE0;
-    let mut on = Registers::of(&before.d, &before.a, ccr(before.flags) | dirt);
+    let mut on = Registers::of(&before.d, &before.a, before.flags.ccr() | dirt);
     let raw::Told(told, whole) = raw::run_recipe(text, &mut on);
     let left = (on.d.get(), on.a.get(), on.flags.get()) == (&after.d, &after.a, &[flags]);
     tally.called("recipe_run");

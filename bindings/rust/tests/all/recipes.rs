@@ -1,135 +1,116 @@
-//! Recipes against the arithmetic of u128: random ones, all verbs, all widths.
+//! Recipes against what the reading of document 01 in Python says of them: random ones, all verbs, all widths.
+//! tools/recipe-vectors makes them, and has the form of a vector; it wants python3.
 
 use gromavelush::*;
+use std::collections::HashSet;
+use std::process::Command;
 
-use crate::common::Random;
+const TOOL: &str = concat!(env!("CARGO_MANIFEST_DIR"), "/../../tools/recipe-vectors");
 
-/// The greatest number of that width.
-fn most(width: u8) -> u128 {
-    u128::MAX >> (128 - 32 * u32::from(width))
+/// X, N, Z, V and C.
+const ALL_FLAGS: u32 = 31;
+
+/// How a run stands at a place: the data registers, the flags, and which of them are promised; the others are 0.
+struct Standing {
+    d: [u32; 8],
+    flags: u32,
+    promised: u32,
 }
 
-fn is_negative(number: u128, width: u8) -> bool {
-    number > most(width) / 2
+struct Vector {
+    text: Vec<u8>,
+    before: State,
+    after: Standing,
+    steps: u32,
+    clocks: u64,
+    middle: u32,
+    there: Standing,
 }
 
-/// A number with its sign carried up to 128 bits.
-fn signed(number: u128, width: u8) -> i128 {
-    let above = 128 - 32 * u32::from(width);
-    (number << above) as i128 >> above
+fn standing(mut field: impl FnMut() -> u32) -> Standing {
+    Standing { d: [0; 8].map(|_| field()), flags: field(), promised: field() }
 }
 
-/// The flags of a whole number. V: the signs say that the exact result doesn't fit.
-fn whole(result: u128, carry: bool, v: bool, width: u8) -> Option<Flags> {
-    Some(Flags { x: carry, n: is_negative(result, width), z: result == 0, v, c: carry })
+/// The first vector, and what is behind it.
+fn first_of(bytes: &[u8]) -> (Vector, &[u8]) {
+    let end = bytes.iter().position(|&byte| byte == b'\n').expect("a line end");
+    let mut fields = bytes[..end].split(|&byte| byte == b'\t');
+    let mut field = || {
+        let digits = String::from_utf8_lossy(fields.next().expect("a field more"));
+        u32::from_str_radix(&digits, 16).expect("a number")
+    };
+    let (text, rest) = bytes[end + 1..].split_at(field() as usize);
+    let flags = Flags::of(field() as u8);
+    let before = State { d: [0; 8].map(|_| field()), a: [0; 8].map(|_| field()), flags };
+    let after = standing(&mut field);
+    let (steps, clocks, middle) = (field(), field().into(), field());
+    let there = standing(&mut field);
+    assert_eq!(fields.next(), None, "a field too many");
+    (Vector { text: text.to_vec(), before, after, steps, clocks, middle, there }, rest)
 }
 
-/// The target's value, X, and the flags where they are promised.
-fn performed(verb: Verb, a: u128, b: u128, x: bool, width: u8) -> (u128, bool, Option<Flags>) {
-    let (cut, minus) = (|number: u128| number & most(width), |number| is_negative(number, width));
-    match verb {
-        Verb::Clear => (0, x, None),
-        Verb::Copy => (a, false, None),
-        Verb::Add => {
-            let result = cut(b.wrapping_add(a));
-            let carry = a > most(width) - b;
-            let v = minus(a) == minus(b) && minus(result) != minus(a);
-            (result, carry, whole(result, carry, v, width))
-        }
-        Verb::Sub => {
-            let result = cut(b.wrapping_sub(a));
-            let v = minus(a) != minus(b) && minus(result) != minus(b);
-            (result, b < a, whole(result, b < a, v, width))
-        }
-        Verb::Neg => {
-            let result = cut(0u128.wrapping_sub(a));
-            (result, a != 0, whole(result, a != 0, a == most(width) / 2 + 1, width))
-        }
-        Verb::Not => (most(width) - a, x, None),
-        Verb::Halve => (cut((signed(a, width) >> 1) as u128), a % 2 == 1, None),
-        Verb::Down => (a / 2, a % 2 == 1, None),
-        Verb::Up => (cut(a << 1), minus(a), None),
+fn vectors(count: usize, seed: u32) -> Vec<Vector> {
+    let ran = Command::new("python3").args([TOOL, &count.to_string(), &seed.to_string()]).output();
+    let output = ran.unwrap_or_else(|error| panic!("python3, which makes the vectors, did not run: {error}"));
+    assert!(output.status.success(), "{TOOL} failed: {}", String::from_utf8_lossy(&output.stderr));
+    let (mut left, mut found) = (&output.stdout[..], vec![]);
+    while !left.is_empty() {
+        let (vector, rest) = first_of(left);
+        found.push(vector);
+        left = rest;
     }
+    assert_eq!(found.len(), count, "{TOOL}");
+    found
 }
 
-/// Steps and clocks for each register.
-fn cost(verb: Verb) -> (u32, u64) {
-    match verb {
-        Verb::Add | Verb::Sub => (1, 4),
-        Verb::Clear | Verb::Neg | Verb::Not => (1, 6),
-        Verb::Copy => (2, 10),
-        Verb::Halve | Verb::Down | Verb::Up => (1, 10),
+impl Vector {
+    /// Whether a state is this one, as far as its flags are promised. The address registers stay.
+    fn reaches(&self, state: &State, standing: &Standing) -> bool {
+        let flags = u32::from(state.flags.ccr()) & standing.promised;
+        (state.d, state.a, flags) == (standing.d, self.before.a, standing.flags)
     }
-}
 
-fn some_line(random: &mut Random, width: u8, verb: Verb) -> Line {
-    let numbers = u64::from(8 / width);
-    let a = random.below(numbers);
-    let other = (a + 1 + random.below(numbers - 1)) % numbers;
-    let b = if verb != Verb::Copy && random.below(3) == 0 { a } else { other };
-    Line { verb, a: a as u8, b: b as u8 }
-}
-
-/// Document 01's table, line by line, on whole numbers.
-fn wanted(recipe: &Recipe, state: &mut State) -> RecipeRun {
-    let Recipe { width, lines } = recipe;
-    let mut run = RecipeRun { x: state.flags.x, flags: Some(state.flags), steps: 0, clocks: 0 };
-    for line in lines {
-        let (a, b) = (state.number(*width, line.a).unwrap(), state.number(*width, line.b).unwrap());
-        let (value, x, flags) = performed(line.verb, a, b, run.x, *width);
-        let target = if line.verb.takes_two() { line.b } else { line.a };
-        state.set_number(*width, target, value).unwrap();
-        let (steps, clocks) = cost(line.verb);
-        run = RecipeRun {
-            x,
-            flags,
-            steps: run.steps + steps * u32::from(*width),
-            clocks: run.clocks + clocks * u64::from(*width),
-        };
+    /// The text by one call.
+    fn run_whole(&self) {
+        let Vector { before, after, steps, clocks, .. } = self;
+        let mut state = *before;
+        let ran = run_text(&self.text, &mut state).expect("it is sound");
+        let flags = Flags::of(after.flags as u8);
+        let told = (after.promised == ALL_FLAGS).then_some(flags);
+        assert_eq!(ran, RecipeRun { x: flags.x, flags: told, steps: *steps, clocks: *clocks });
+        assert_eq!(state, State { d: after.d, a: before.a, flags });
     }
-    run
-}
 
-fn compare(recipe: &Recipe, before: State) {
-    let (mut state, mut should) = (before, before);
-    let ran = run_text(recipe.to_string().as_bytes(), &mut state).expect("it is sound");
-    assert_eq!(ran, wanted(recipe, &mut should), "{recipe}on {before:x?}");
-    assert_eq!((state.d, state.a), (should.d, should.a), "{recipe}on {before:x?}");
-    assert_eq!(state.flags, ran.flags.unwrap_or(Flags { x: ran.x, ..Flags::default() }));
-    let mut stepped = before;
-    let listing = translate(recipe).expect("it is sound");
-    let run = run(&listing, &mut stepped, 0, u32::MAX);
-    assert_eq!((run.end, run.steps, run.clocks), (End::Finished, ran.steps, ran.clocks));
-    assert_eq!((stepped.d, stepped.a, stepped.flags.x), (state.d, state.a, ran.x));
-}
-
-#[test]
-fn each_verb_at_each_width() {
-    let mut random = Random(20);
-    for width in [1, 2, 4] {
-        for verb in Verb::ALL {
-            for _ in 0..500 {
-                let lines = vec![some_line(&mut random, width, verb)];
-                compare(&Recipe { width, lines }, random.state());
-            }
-        }
+    /// Its listing, and the same halted in the middle and continued.
+    fn run_listing(&self, recipe: &Recipe) {
+        let Vector { before, steps, clocks, middle, .. } = self;
+        let listing = translate(recipe).expect("it is sound");
+        let (mut whole, mut halted) = (*before, *before);
+        let ran = run(&listing, &mut whole, 0, u32::MAX);
+        let next = listing.steps().len();
+        assert_eq!(ran, Ran { end: End::Finished, next, steps: *steps, clocks: *clocks });
+        assert!(self.reaches(&whole, &self.after), "{recipe}on {before:x?}: {whole:x?}");
+        let first = run(&listing, &mut halted, 0, *middle);
+        let end = if middle == steps { End::Finished } else { End::Budget };
+        assert_eq!((first.end, first.next, first.steps), (end, *middle as usize, *middle));
+        assert!(self.reaches(&halted, &self.there), "{recipe}on {before:x?}, {middle} steps: {halted:x?}");
+        let rest = run(&listing, &mut halted, first.next, u32::MAX);
+        let sums = (first.steps + rest.steps, first.clocks + rest.clocks);
+        assert_eq!((rest.end, sums, halted), (End::Finished, (*steps, *clocks), whole));
     }
 }
 
 #[test]
-fn random_recipes() {
-    let mut random = Random(21);
-    for _ in 0..10_000 {
-        let width = random.pick(&[1, 2, 4]);
-        let count = random.below(33) as usize;
-        let lines = (0..count)
-            .map(|_| {
-                let verb = random.pick(&Verb::ALL);
-                some_line(&mut random, width, verb)
-            })
-            .collect();
-        compare(&Recipe { width, lines }, random.state());
+fn recipes_do_what_the_reading_in_python_says() {
+    let mut met = HashSet::new();
+    for vector in vectors(10_000, 20) {
+        let recipe = read(&vector.text).expect("it is sound");
+        assert_eq!(recipe.to_string().as_bytes(), vector.text);
+        vector.run_whole();
+        vector.run_listing(&recipe);
+        met.extend(recipe.lines.iter().map(|line| (line.verb, recipe.width)));
     }
+    assert_eq!(met.len(), Verb::ALL.len() * [1, 2, 4].len(), "each verb at each width");
 }
 
 #[test]

@@ -136,9 +136,9 @@ fn numbers_6_and_7_by_hand() {
 }
 
 #[test]
-fn number_8_lines_after_the_32nd() {
-    assert_eq!(read(&copies(1, 32)).map(|recipe| recipe.lines.len()), Ok(32));
-    for count in [33, 34, 256, 5000] {
+fn number_8_too_many_lines() {
+    assert_eq!(read(&copies(1, MOST_LINES)).map(|recipe| recipe.lines.len()), Ok(MOST_LINES));
+    for count in [MOST_LINES + 1, MOST_LINES + 2, 0x100, 5000] {
         let lines = vec![Line { verb: Verb::Copy, a: 9, b: 9 }; count];
         let refused = translate(&Recipe { width: 1, lines });
         assert_eq!(refused, Err(Refused { refusal: Refusal::TooManyLines, line: 0 }));
@@ -148,18 +148,18 @@ fn number_8_lines_after_the_32nd() {
 #[test]
 fn number_9_slots_and_slots_past_the_listing() {
     let mark = Step { size: Size::Word, form: Form::Chk(D(200), D(100)) };
-    let recipe = read(&copies(4, 32)).expect("32 lines");
-    for length in [0, 1, 255] {
+    let recipe = read(&copies(4, MOST_LINES)).expect("as many lines as there may be");
+    for length in [0, 1, RECIPE_STEPS - 1] {
         let mut slots = vec![mark; length];
         let refused = translate_into(&recipe, &mut slots);
         assert_eq!(refused, Err(Refused { refusal: Refusal::NoSpace, line: 0 }));
         assert_eq!(slots, vec![mark; length]);
     }
-    for length in [256, 257, 300] {
+    for length in [RECIPE_STEPS, RECIPE_STEPS + 1, RECIPE_STEPS + 44] {
         let mut slots = vec![mark; length];
-        assert_eq!(translate_into(&recipe, &mut slots), Ok(256));
-        assert_eq!(slots[256..], vec![mark; length - 256]);
-        assert_eq!(slots[..256], *translate(&recipe).expect("32 lines").steps());
+        assert_eq!(translate_into(&recipe, &mut slots), Ok(RECIPE_STEPS));
+        assert_eq!(slots[RECIPE_STEPS..], vec![mark; length - RECIPE_STEPS]);
+        assert_eq!(slots[..RECIPE_STEPS], *translate(&recipe).expect("the same").steps());
     }
     let mut slots = [mark; 5];
     assert_eq!(translate_into(&read(EXAMPLE).expect("a recipe"), &mut slots), Ok(4));
@@ -170,8 +170,8 @@ fn number_9_slots_and_slots_past_the_listing() {
 #[test]
 fn number_10_start_places() {
     let step = Step { size: Size::Long, form: Form::One(OneOp::Not, D(0)) };
-    for length in [0, 1, 256] {
-        let listing = Listing::new(&vec![step; length]).expect("at most 256 steps");
+    for length in [0, 1, MOST_STEPS] {
+        let listing = Listing::new(&vec![step; length]).expect("not too many steps");
         for start in [length + 1, length + 2, usize::MAX] {
             let mut state = STATE;
             let ran = run(&listing, &mut state, start, 5);
@@ -182,8 +182,9 @@ fn number_10_start_places() {
         let end = run(&listing, &mut STATE.clone(), length, 0).end;
         assert_eq!(end, End::Finished);
     }
-    let ran = run_words(&[step.word(); 300], &mut STATE.clone(), 257, 5);
-    assert_eq!(ran.end, End::Refused { refusal: Refusal::StartPastEnd, place: 257 });
+    let place = MOST_STEPS + 1;
+    let ran = run_words(&[step.word(); MOST_STEPS + 44], &mut STATE.clone(), place, 5);
+    assert_eq!(ran.end, End::Refused { refusal: Refusal::StartPastEnd, place });
 }
 
 #[test]

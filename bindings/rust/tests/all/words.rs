@@ -69,19 +69,20 @@ fn document_01_s_example_is_printed_exactly() {
     assert_eq!(recipe.to_string().as_bytes(), EXAMPLE);
 }
 
-/// The longest line that can be printed, 256 times: nothing is left off.
+/// The longest line that can be printed, as often as it can be: nothing is left off.
 #[test]
 fn the_longest_listing_is_printed_whole() {
     let step =
         Step { size: Size::Long, form: Form::Address(AddressOp::Adda, Register::Address(A(255)), A(255)) };
-    let text = print(255, &Listing::new(&[step; 256]).expect("256 steps"));
-    assert_eq!(text.lines().count(), 258);
-    assert!(text.ends_with("255\tADDA\tL\tA255\tA255\nclocks\t0\n"));
+    let text = print(255, &Listing::new(&[step; MOST_STEPS]).expect("not too many steps"));
+    assert_eq!(text.lines().count(), 1 + MOST_STEPS + 1);
+    assert!(text.ends_with(&format!("{}\tADDA\tL\tA255\tA255\nclocks\t0\n", MOST_STEPS - 1)));
 }
 
 #[test]
-fn a_listing_is_not_longer_than_256() {
+fn a_listing_is_not_too_long() {
     let step = Step { size: Size::Long, form: Form::One(OneOp::Clr, D(0)) };
-    assert_eq!(Listing::new(&[step; 257]), Err(TooLong { steps: 257 }));
-    assert_eq!(Listing::new(&[step; 256]).map(|listing| listing.words().len()), Ok(256));
+    let steps = MOST_STEPS + 1;
+    assert_eq!(Listing::new(&[step; MOST_STEPS + 1]), Err(TooLong { steps }));
+    assert_eq!(Listing::new(&[step; MOST_STEPS]).map(|listing| listing.words().len()), Ok(MOST_STEPS));
 }
