@@ -32,6 +32,8 @@ fn a_result_that_is_one() {
 /// By the Manual's rows Sm = 0, Dm = 1, Rm = 1 is no carry, and Sm = 0, Dm = 0, Rm = 1 is a borrow.
 #[test]
 fn a_result_that_is_none() {
+    // 7F + 80 + X, as ADDX has it: a carry, which the crate's ADDX works out for itself
+    assert_eq!(add(0x7F, 0x80, 0x00, Size::Byte), "--Z--");
     assert_eq!(add(0x01, 0xFF, 0xFF, Size::Byte), "XN--C");
     assert_eq!(add(0x01, 0xFFFF_FFFF, 0xFFFF_FFFF, Size::Long), "-N---");
     assert_eq!(sub(0x00, 0x00, 0x80, Size::Byte), "-N---");

@@ -2,7 +2,7 @@
 //! the listings run by src/tuned.rs.
 
 use compare::cases::Random;
-use compare::recipes::{Line, Recipe, Verb, answer, clocks, read, translate};
+use compare::recipes::{LINES_MAX, Line, Recipe, SLOTS, STEPS_MAX, Verb, answer, clocks, read, translate};
 use compare::refusals;
 use compare::steps::{End, FIRST, Ran, State};
 use compare::texts::recipe;
@@ -17,9 +17,16 @@ fn texts_are_printed_or_refused() {
 
 #[test]
 fn a_listing_is_too_short() {
-    let full = Recipe { count: 32, lines: [Line { verb: Verb::Copy, a: 0, b: 1 }; 32], ..Recipe::empty(4) };
-    assert_eq!(translate(&full, 256).map(|steps| steps.len()), Ok(256));
-    assert_eq!(translate(&full, 255).map_err(|refused| (refused.number, refused.line)), Err((9, 0)));
+    let full = Recipe {
+        count: LINES_MAX,
+        lines: [Line { verb: Verb::Copy, a: 0, b: 1 }; LINES_MAX],
+        ..Recipe::empty(4)
+    };
+    assert_eq!(translate(&full, STEPS_MAX).map(|steps| steps.len()), Ok(STEPS_MAX));
+    assert_eq!(
+        translate(&full, STEPS_MAX - 1).map_err(|refused| (refused.number, refused.line)),
+        Err((9, 0))
+    );
 }
 
 #[test]
@@ -60,7 +67,7 @@ fn listings_do_what_the_table_says() {
     let mut accepted = 0;
     for _ in 0..20_000 {
         let recipe = recipe(&mut random);
-        let Ok(listing) = translate(&recipe, 256) else { continue };
+        let Ok(listing) = translate(&recipe, SLOTS) else { continue };
         accepted += 1;
         let mut state = FIRST;
         state.d = std::array::from_fn(|_| random.number());

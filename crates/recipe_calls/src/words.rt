@@ -1,5 +1,5 @@
 // A step, and a line of a recipe, as one number, laid out as `specs/Words.antt` says. An operation has the number by which
-// `alu_call` knows it.
+// `alu_call` knows it. In a contract `only` and `either` are the definitions of specs/, not the functions here.
 ghost use mathlib.Core.Path.{_≡_};
 ghost use Prim.Native.Nat.{_<_, _^_, _%_};
 ghost use lib.ListN.{getD};

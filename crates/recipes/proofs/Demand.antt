@@ -8,13 +8,11 @@
 --     meets-one          two runs that meet the rule and end alike are equal, once their flags are; `meets-x`: their X is; `meets-flags`: after add, sub and neg, all five
 --     ruled-registers    the rule's numbers determine the registers
 use mathlib.Core.Path.{_≡_, refl, sym, ap, ap₂, _∙_, subst, subst⁻¹}
-use mathlib.Core.Bool.{Bool, true, false, _||_, false≢true}
+use mathlib.Core.Bool.{Bool, true}
 use mathlib.Core.List.{List, [], _∷_, _++_, append-nil}
 use Prim.Native.Nat.{ℕ, zero, suc, _+_, _-_, _*_, _/_, _≤_}
 use native.Mathlib.Omega.{arith}
 use native.Mathlib.Nat.{add-zero, zero-add, add-assoc}
-use borrow.Author.Tests.{eqb-true}
-use lib.Dec.{eqb}
 use lib.ListN.{length, set, take, drop, length-append}
 use lib.Seq.{take-append-seam}
 use Rattle.alu.specs.declared.types.Flags.{Flags}

@@ -4,7 +4,7 @@
 --     .. -determined   those that are lent a slice or a row of steps, by `OneExit` of the crate step: at exit the contract says one equation, of the
 --                      whole answer, the result together with all that stands behind the references. tools/contracts looks that none is left out
 -- Assumes nothing.
-use mathlib.Core.Path.{_≡_, refl, ap}
+use mathlib.Core.Path.{refl, ap}
 use mathlib.Core.List.{List, [], _∷_}
 use Prim.Native.Nat.{ℕ}
 use lib.ListN.{take}
@@ -19,7 +19,6 @@ use contract.Lifetimes.{Lfts}
 use denote.Ref.{now}
 use denote.Triple.Entry.{Args}
 use Rattle.alu.proofs.Determined.{Fixed, fixed, one-equation}
-use Rattle.step.specs.declared.steps.Step.{Step}
 use Rattle.step.proofs.Determined.{OneExit}
 use Rattle.recipes.specs.declared.types.Translated.{Translated}
 use Rattle.recipes.specs.declared.types.Listing.{Listing}

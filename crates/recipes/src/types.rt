@@ -1,4 +1,5 @@
-// What a recipe is, why one is refused, and what its reader and its translator answer.
+// What a recipe is, its limits, why one is refused, and what its reader and its translator answer. In a contract `target` is
+// the definition of specs/, not the function here.
 ghost use mathlib.Core.Path.{_≡_};
 ghost use Rattle.recipes.specs.Recipe.{numberOf, isNothing, takesTwo, isCopy, target, isWidth};
 use alu::types::Flags;
