@@ -20,7 +20,7 @@ ROOT = os.path.dirname(os.path.dirname(os.path.realpath(__file__)))
 
 TEXT_MAX = 1024  # bytes that a program reads of its input
 LINES_MAX = 32  # lines of a recipe
-STEPS_MAX = 256  # steps of a listing
+STEPS_MAX = 256  # the most steps of a recipe
 PLACE_DIGITS = 10  # digits of a place that bench is asked to start from
 REGISTERS = 8  # of each kind
 WIDTHS = (1, 2, 4)  # registers of a number

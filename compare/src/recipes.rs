@@ -9,7 +9,7 @@ use std::iter::{once, repeat};
 /// As many lines as a recipe may have.
 pub const LINES_MAX: usize = 32;
 
-/// As many steps as a recipe may have: that many copies at width 4.
+/// As many steps as a recipe may have: `LINES_MAX` copies at width 4 have as many.
 pub const STEPS_MAX: usize = 256;
 
 /// The slots of a listing in an array, and of one in words: steps past them are not run.

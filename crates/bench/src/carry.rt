@@ -17,7 +17,7 @@ use recipes::types::Recipe;
 use recipes::types::Verb;
 use step::runs::Ran;
 
-// Whether X behind a line of this verb is a carry or borrow out of its number.
+// Whether X behind a line of this verb is a carry or borrow out of its number. (X behind `neg` says that it was not 0.)
 fn carries(verb: Verb) -> bool {
     match verb {
         Verb::Clear => false,
@@ -55,7 +55,7 @@ pub(crate) fn carried(recipe: Recipe, made: Listing, start: Ran, steps: u32) -> 
     told
 }
 
-// Whether line k is told, and changes this number.
+// Whether a line is told, and changes this number.
 fn is_of(line: Line, told: bool, number: u8) -> bool {
     told & (target(line) == number)
 }

@@ -35,8 +35,8 @@ fn put_run(out: &mut [u8], asked: Asked, text: &[u8], recipe: Recipe) -> usize {
     }
 }
 
-// Room for any answer: a table has at most 260 rows of 151 bytes, and less than 3,000 bytes above and below them; plain rows
-// are at most 257 of 158 bytes.
+// Room for any answer: a table has a row of at most 151 bytes for each of `STEPS_MAX` steps and four more, and less than 3,000
+// bytes above and below them; plain rows are one more than the steps, of 158 bytes.
 const ROOM: usize = 65536;
 
 // The whole answer to a text.

@@ -5,7 +5,7 @@ use check::same;
 use libc::STDERR_FILENO;
 use step::registers::State;
 
-// The things that a word gives: the registers, the flags, `from`, `steps` and `rows`.
+// The things that a word gives: the registers, the flags, `from`, `steps` and `rows`. (In contracts below it is 24.)
 const THINGS: usize = 24;
 
 // What is asked for: the state to start with, the start place, the steps that may be done, and whether as plain rows.

@@ -7,7 +7,7 @@ use mathlib.Core.Path.{_≡_, refl, sym, _∙_}
 use mathlib.Core.List.{List, [], _∷_, map}
 use lib.Dec.{lit<}
 use native.Mathlib.Omega.{arith}
-use lib.ListN.{length, getD, take, length-map}
+use lib.ListN.{length, getD, length-map}
 use lib.Seq.{take-all}
 use Rattle.alu.specs.declared.types.Size.{Size}
 use Rattle.alu.specs.declared.types.Size.the-variants.{Byte, Word, Long}
@@ -38,7 +38,7 @@ use Rattle.recipe_calls.specs.Words.{byteRadix, operations, madeOf, size
 use Rattle.recipe_calls.specs.Words.{twoNumber, addressNumber, oneNumber, shiftNumber, bitNumber, sizeNumber, operationNumber, sourceKind, sourceNumber, destinationNumber}
 use Rattle.recipe_calls.proofs.Naming.{form-named, line-named}
 
--- ---- bytes: what stands in one comes out of it
+-- ---- bytes: what stands in one comes out of it. 256, 65536 .. are the powers of `byteRadix`, as they compute
 
 byte-0 : (a b c d e : ℕ) → a < byteRadix → (a + b * 256 + c * 65536 + d * 16777216 + e * 4294967296) / 1 % 256 ≡ a
 byte-0 a b c d e h = omega arith

@@ -13,7 +13,7 @@ use Rattle.recipes.specs.declared.types.Refusal.the-variants.{NoSpace}
 use Rattle.recipes.specs.declared.types.Listing.{Listing}
 use Rattle.recipes.specs.Recipe.{numberOf}
 use Rattle.recipe_calls.specs.Words.{stepWord, saidOf}
-use Rattle.recipe_calls.specs.Calls.{RowLeft, rowLeft, over, fitted}
+use Rattle.recipe_calls.specs.Calls.{rowLeft, over, fitted}
 
 pub end-told : (e : End) (rest : List ℕ) → getD (endNumbers e) 0 0 ∷ getD (endNumbers e) 1 0 ∷ getD (endNumbers e) 2 0 ∷ rest ≡ endNumbers e ++ rest
 end-told Finished rest = refl

@@ -81,7 +81,7 @@ ranTold r = stateLeft (r .state .d) (r .state .a) (ccrOf (r .state .flags)) (end
 abbrev pub runWords : (listing d a : List ℕ) → (flags start budget : ℕ) → StateLeft
 runWords listing d a flags start budget = ranTold (runOf performOf (firstOf listing) (stateOf d a flags) start budget)
 
--- ---- recipe_run: the registers and flags; refusal number, text line, the flags that are promised, steps, clocks
+-- ---- recipe_run: the registers and flags; refusal number, text line, a mask of the flags that are promised, steps, clocks
 
 -- all five, or X alone (16)
 abbrev pub promisedOf : Codes → ℕ

@@ -180,8 +180,8 @@ fn ccr_after(x: bool, codes: Codes) -> u8
     }
 }
 
-// Reads a recipe text and runs it on a register set. `told` gets the refusal number, its text line, the flags that are promised,
-// the steps and the sum of their figures. A flag that is not promised is left 0.
+// Reads a recipe text and runs it on a register set. `told` gets the refusal number, its text line, a mask of the flags
+// that are promised, the steps and the sum of their figures. A flag that is not promised is left 0.
 pub fn recipe_run(
     text: &[u8],
     d: &mut [u32; 8],

@@ -167,7 +167,7 @@ module _ (w : ℕ) (ls : List Line) where
   last row [] l h = lines-cut w ls row (omega arith) l
   last row (next ∷ more) l h = lines-next w ls row next more l ∙ rw (long-row (8 / w) row h)
 
--- A line that is read has at most 9 bytes and its byte 10, and there are at most 32: 330 bytes meet a refusal.
+-- A line that is read has at most 9 bytes and its byte 10, and there are at most `linesMax`: 330 bytes meet a refusal.
 lines-refused : (w : ℕ) (ls : List Line) (row : List ℕ) (more : List (List ℕ)) → length ls ≤ linesMax → 330 ≤ length row + behind more + 10 * length ls
     → Refused (λ s. linesOf w ls (front row more s) (rest more s))
 lines-refused w ls row [] few h =

@@ -47,5 +47,5 @@ module _ (w : ℕ) (ls : List Line) where
 -- one more slot is filled
 pub padded-more : (ls : List Line) (l : Line) → length ls < linesMax → set (padded ls) (length ls) l ≡ padded (ls ++ (l ∷ []))
 padded-more ls l h =
-    let n : 32 - length ls ≡ suc (32 - length (ls ++ (l ∷ []))) = rw length-append (omega arith) in
+    let n : linesMax - length ls ≡ suc (linesMax - length (ls ++ (l ∷ []))) = rw length-append (omega arith) in
     rw (n, set-append-seam, append-assoc)

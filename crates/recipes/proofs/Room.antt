@@ -1,4 +1,4 @@
--- How long printed texts are: the program's buffer of 20,480 bytes has room for any of them, whatever steps stand in a listing. Assumes nothing.
+-- How long printed texts are: the program's buffer of `printMax` bytes has room for any of them, whatever steps stand in a listing. Assumes nothing.
 --     answer-short    the program's answer to any text
 --     whole-written   so what is written is the whole text
 use Prim.Native.Nat.{ℕ, zero, suc, _+_, _*_, _/_, _%_, _≤_, min, _-_}

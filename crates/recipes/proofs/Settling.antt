@@ -16,6 +16,7 @@ use lib.Dec.{leb, ltb}
 use lib.ListN.{length, take, drop, length-take, length-replicate}
 use lib.Seq.{take-at}
 use Rattle.step.specs.declared.steps.Step.{Step}
+use Rattle.step.specs.Run.{arraySlots}
 use Rattle.recipes.specs.declared.types.Line.{Line}
 use Rattle.recipes.specs.declared.types.Recipe.{Recipe}
 use Rattle.recipes.specs.declared.types.Refusal.the-variants.{Nothing, NoSpace}
@@ -33,6 +34,10 @@ few-steps r w c =
     let some : length (recipeLines r) ≡ min (r .count) (length (r .lines)) = length-take (r .count) (r .lines) in
     let most = steps-most (r .width) (recipeLines r) w in omega arith
 
+-- and an array has slots for as many
+slots-enough : stepsMax ≤ arraySlots
+slots-enough = omega arith
+
 pub ready : (r : Recipe) → length (r .lines) ≡ linesMax → Layable (r .width) (r .lines) (judgeOf r .count)
 ready r n =
     tests-agree (λ (t _ : Translated). Layable (r .width) (r .lines) (t .count)) refused refused (λ k line e. none) r (told Nothing 0 (stepsOf (r .width) (recipeLines r)))
@@ -42,7 +47,7 @@ ready r n =
     none = record { many = 0; within = omega arith; width = λ h. absurd (omega arith); named = λ h. absurd (omega arith); counted = omega arith; held = omega arith }
 
     whole : (0 < r .width) × (r .width ≤ 4) → r .count ≤ linesMax → Accepted (r .width) (recipeLines r) → Layable (r .width) (r .lines) (stepsOf (r .width) (recipeLines r))
-    whole w c a = record { many = r .count; within = few-steps r (w .1) c; width = λ h. w; named = λ h. a; counted = omega arith; held = omega arith }
+    whole w c a = record { many = r .count; within = omega (arith, few-steps r (w .1) c, slots-enough); width = λ h. w; named = λ h. a; counted = omega arith; held = omega arith }
 
 -- the translation that stands where all tests are passed
 abbrev pub whole : (w : ℕ) (ls : List Line) (slots : List Step) → Listing
@@ -56,7 +61,7 @@ whole-short : (w : ℕ) (ls : List Line) (slots : List Step) → length slots < 
 whole-short w ls slots h = rw (lt-leb (stepsOf w ls) (length slots) h)
 
 pub blanks-fit : (r : Recipe) → r .width ≤ 4 → r .count ≤ linesMax → stepsOf (r .width) (recipeLines r) ≤ length blanks
-blanks-fit r w c = rw length-replicate (few-steps r w c)
+blanks-fit r w c = rw length-replicate (omega (arith, few-steps r w c, slots-enough))
 
 pub laid : (r : Recipe)
     → listed (judgeOf r .refusal) (judgeOf r .line) (judgeOf r .count) (over (take (judgeOf r .count) (listingOf (r .width) (r .lines))) blanks) ≡ translateOf r blanks

@@ -174,8 +174,8 @@ readingPrinted r = cond (isNothing (r .refusal)) (printedOf (r .recipe)) (refusa
 unfoldable pub answerOf : List ℕ → List ℕ
 answerOf text = readingPrinted (readOf text)
 
--- the bytes that the program reads of a text (`cut-answers` of proofs/Cut: they are answered as the whole text is), and its room for an answer
--- (`answer-short` of proofs/Room: none is longer)
+-- the bytes that the program reads of a text (`cut-answers` of proofs/Cut: they are answered as the whole text is), and its room for an answer,
+-- our own number (`answer-short` of proofs/Room: none is longer)
 abbrev pub textMax : ℕ
 textMax = 1024
 
