@@ -13,7 +13,8 @@ use Rattle.step.specs.declared.runs.End.the-variants as End
 use Rattle.step.specs.declared.runs.Ran.{Ran}
 use Rattle.step.specs.Perform.{numberOf, classOf}
 
--- the slots of a listing that stands in an array: document 01, "into a 256-slot listing". (How many steps a recipe may have is another number: `stepsMax` of the crate recipes)
+-- the slots of a listing that stands in an array: document 01, "into a 256-slot listing". (How many steps a recipe may have is another number: `stepsMax`
+-- of the crate recipes)
 abbrev pub arraySlots : ℕ
 arraySlots = 256
 
