@@ -10,7 +10,7 @@ use mathlib.Core.Bool.{true, false, true≢false}
 use mathlib.Core.List.{List, [], _∷_}
 use Prim.Native.Nat.{ℕ, suc, _+_, _-_, _*_, _%_, _^_, _≤_, _<_}
 use mathlib.Core.Logic.{_⊎_, inl, inr}
-use native.Mathlib.Nat.{mod-lt}
+use native.Mathlib.Nat.{mod-lt, mod-eq-of-lt, add-mul-mod-self-right}
 use native.Mathlib.Omega.{arith}
 use native.Mathlib.Decide.{decLt}
 use lib.Dec.{lit<}
@@ -130,13 +130,12 @@ adding = record { verb = Add; a = 0; b = 1 } ∷ []
 abbrev Wrapped : (m x : ℕ) → Type 0
 Wrapped m x = (x % m ≡ x) ⊎ (x % m + m ≡ x)
 
-wraps-word : (x : ℕ) → x < 2 * 2 ^ 32 → Dec (x < 2 ^ 32) → Wrapped (2 ^ 32) x
-wraps-word x h (yes l) = inl (omega arith)
-wraps-word x h (no g) = inr (omega arith)
-
-wraps-pair : (x : ℕ) → x < 2 * 2 ^ 64 → Dec (x < 2 ^ 64) → Wrapped (2 ^ 64) x
-wraps-pair x h (yes l) = inl (omega arith)
-wraps-pair x h (no g) = inr (omega arith)
+wraps : (m x : ℕ) → x < m + m → Dec (x < m) → Wrapped m x
+wraps m x h (yes l) = inl (mod-eq-of-lt l)
+wraps m x h (no g) =
+    let parts : x ≡ x - m + 1 * m = omega arith in
+    let cut : x % m ≡ x - m = ap (λ (y : ℕ). y % m) parts ∙ (add-mul-mod-self-right (x - m) 1 m ∙ mod-eq-of-lt (omega arith)) in
+    inr (ap (λ (y : ℕ). y + m) cut ∙ omega arith)
 
 -- low and high are the sums of the low words and of the high ones, and the low words carry
 one-short : (low high : ℕ) → 2 ^ 32 ≤ low → low < 2 * 2 ^ 32 → high < 2 * 2 ^ 32 → Wrapped (2 ^ 32) low → Wrapped (2 ^ 32) high → Wrapped (2 ^ 64) (low + 2 ^ 32 * high)
@@ -171,8 +170,8 @@ module _ (d0 d1 d2 d3 : ℕ) (rest a : List ℕ) (f : Flags) where
       carry-gone ∙ (ap₂ {C = ℕ} (λ (l h : ℕ). l % 2 ^ 32 + 2 ^ 32 * (h % 2 ^ 32 + 2 ^ 32 * 0)) (cut h2 h0) (cut h3 h1) ∙ omega arith) in
       let right : (d2 + 2 ^ 32 * (d3 + 2 ^ 32 * 0) + (d0 + 2 ^ 32 * (d1 + 2 ^ 32 * 0))) % 2 ^ 64 ≡ (low + 2 ^ 32 * high) % 2 ^ 64 = ap (λ (v : ℕ). v % 2 ^ 64) (omega arith) in
       one-short low high (omega arith) (omega arith) (omega arith)
-      (wraps-word low (omega arith) (decLt low (2 ^ 32))) (wraps-word high (omega arith) (decLt high (2 ^ 32)))
-      (wraps-pair (low + 2 ^ 32 * high) (omega arith) (decLt (low + 2 ^ 32 * high) (2 ^ 64)))
+      (wraps (2 ^ 32) low (omega arith) (decLt low (2 ^ 32))) (wraps (2 ^ 32) high (omega arith) (decLt high (2 ^ 32)))
+      (wraps (2 ^ 64) (low + 2 ^ 32 * high) (omega arith) (decLt (low + 2 ^ 32 * high) (2 ^ 64)))
       (sym left ∙ (ap (λ (ns : List ℕ). getD ns 1 0) (meets .rule .numbers) ∙ (carry-due ∙ right)))
     where
       cut : {x y : ℕ} → x < 2 ^ 32 → y < 2 ^ 32 → x % 2 ^ 32 + y % 2 ^ 32 + 0 ≡ x + y

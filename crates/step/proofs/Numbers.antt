@@ -78,12 +78,12 @@ pub record Places (r : Ran) : Type 0 where
   pub of-refusal : (n p : ℕ) → endNumbers (r .end) ≡ 3 ∷ n ∷ p ∷ [] → r .next ≡ p
   pub of-trap : (c p : ℕ) → endNumbers (r .end) ≡ 2 ∷ c ∷ p ∷ [] → r .next ≡ suc p
 
--- two ends of different kinds; the place of two that are the same
-other : {A : Type 0} {j k : ℕ} {xs ys : List ℕ} → (j ≡ k → ⊥) → j ∷ xs ≡ k ∷ ys → A
-other ne e = absurd (ne (ap (λ (l : List ℕ). getD l 0 0) e))
+-- number k of two ends that have the same numbers; so two of different kinds have not
+same : (k : ℕ) {xs ys : List ℕ} → xs ≡ ys → getD xs k 0 ≡ getD ys k 0
+same k e = ap (λ (l : List ℕ). getD l k 0) e
 
-third : {i j k i′ j′ k′ : ℕ} → i ∷ j ∷ k ∷ [] ≡ i′ ∷ j′ ∷ k′ ∷ [] → k ≡ k′
-third e = ap (λ (l : List ℕ). getD l 2 0) e
+other : {A : Type 0} {j k : ℕ} {xs ys : List ℕ} → (j ≡ k → ⊥) → j ∷ xs ≡ k ∷ ys → A
+other ne e = absurd (ne (same 0 e))
 
 -- an end that is neither trapped nor refused
 goes-places : (e : End) (s : State) (p : ℕ) → goesOn e ≡ true → Places (ends e s p)
@@ -94,11 +94,11 @@ goes-places (End.Refused fault q) s p g = none g
 
 places-followed : (o : Outcome) (w : Performed) (p : ℕ) (on : State → ℕ → Ran) → ((t : State) (q : ℕ) → Places (on t q)) → Places (followed o w p on)
 places-followed Done w p on h = let u = h (w .state) (suc p) in record { of-refusal = u .of-refusal; of-trap = u .of-trap }
-places-followed (Trapped trap) w p on h = record { of-refusal = λ n q. other (λ e. omega arith); of-trap = λ c q e. ap suc (third e) }
-places-followed (Refused fault) w p on h = record { of-refusal = λ n q e. third e; of-trap = λ c q. other (λ e. omega arith) }
+places-followed (Trapped trap) w p on h = record { of-refusal = λ n q. other (λ e. omega arith); of-trap = λ c q e. ap suc (same 2 e) }
+places-followed (Refused fault) w p on h = record { of-refusal = λ n q e. same 2 e; of-trap = λ c q. other (λ e. omega arith) }
 
 places-met : (o : Spot) (s : State) (p : ℕ) (on : Step → Ran) → ((k : Step) → Places (on k)) → Places (met o s p on)
-places-met pastEnd s p on h = record { of-refusal = λ n q e. third e; of-trap = λ c q. other (λ e. omega arith) }
+places-met pastEnd s p on h = record { of-refusal = λ n q e. same 2 e; of-trap = λ c q. other (λ e. omega arith) }
 places-met atEnd s p on h = goes-places End.Finished s p refl
 places-met (here k) s p on h = h k
 
@@ -158,13 +158,10 @@ perform-few s k = rw (perform-number s (k .size) (k .form)) (step-few (registers
 abbrev Few : End → Type 0
 Few e = (n p : ℕ) → endNumbers e ≡ 3 ∷ n ∷ p ∷ [] → n ≤ 3
 
-second : {i j k i′ j′ k′ : ℕ} → i ∷ j ∷ k ∷ [] ≡ i′ ∷ j′ ∷ k′ ∷ [] → j ≡ j′
-second e = ap (λ (l : List ℕ). getD l 1 0) e
-
 few-followed : (o : Outcome) (w : Performed) (p : ℕ) (on : State → ℕ → Ran) → refusedWith o ≤ 3 → ((t : State) → Few (on t (suc p) .end)) → Few (followed o w p on .end)
 few-followed Done w p on few h = h (w .state)
 few-followed (Trapped trap) w p on few h = λ n q. other (λ e. omega arith)
-few-followed (Refused fault) w p on few h = λ n q e. subst (λ (n : ℕ). n ≤ 3) (second e) few
+few-followed (Refused fault) w p on few h = λ n q e. subst (λ (n : ℕ). n ≤ 3) (same 1 e) few
 
 module _ (f : State → Step → Performed) (l : List Step) (few : (s : State) (k : Step) → refusedWith (f s k .outcome) ≤ 3) where
   few-none : (s : State) (p : ℕ) → p ≤ length l → Dec (p < length l) → Few (runOf f l s p 0 .end)
