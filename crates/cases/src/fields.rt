@@ -3,6 +3,7 @@ ghost use Prim.Native.Nat.{_+_, _≤_};
 ghost use mathlib.Core.Path.{_≡_};
 ghost use lib.ListN.{length};
 ghost use Rattle.recipes.specs.Printer.{printMax};
+use recipe_calls::TOLD;
 use recipes::types::PRINT_MAX;
 
 const TAB: u8 = 9;
@@ -177,13 +178,15 @@ pub(crate) fn long(n: u64) -> u32 {
 }
 
 // Whether the numbers from a column on are these.
-pub(crate) fn same_numbers(v: [u64; COLUMNS], column: usize, told: [u64; 6]) -> bool
-    requires { ⌜ column + 6 ≤ 320 ⌝ }
+// Of what is told, the first `many` numbers as the row has them from a column on, and 0 behind them.
+pub(crate) fn same_told(v: [u64; COLUMNS], column: usize, many: usize, told: [u64; TOLD]) -> bool
+    requires { ⌜ column + 8 ≤ 320 ⌝ }
 {
     let mut good = true;
     let mut i = 0;
-    while i < 6 {
-        good = good & (v[column + i] == told[i]);
+    while i < TOLD {
+        let want = if i < many { v[column + i] } else { 0 };
+        good = good & (want == told[i]);
         i += 1;
     }
     good

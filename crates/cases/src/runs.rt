@@ -7,8 +7,9 @@ use crate::fields::COLUMNS;
 use crate::fields::byte;
 use crate::fields::long;
 use crate::fields::numbers_of;
-use crate::fields::same_numbers;
 use crate::fields::same_registers;
+use crate::fields::same_told;
+use recipe_calls::TOLD;
 
 // Where the words begin, and as many as a listing may have.
 const HEAD: usize = 18;
@@ -22,7 +23,7 @@ struct Run {
     d: [u32; 8],
     a: [u32; 8],
     flags: u8,
-    told: [u64; 6],
+    told: [u64; TOLD],
 }
 
 // D0, D1, A1 and flags from a column on.
@@ -37,7 +38,7 @@ fn state(v: [u64; COLUMNS], column: usize) -> Run
         d: [d0, d1, 0x2222, 0x3333, 0x4444, 0x5555, 0x6666, 0x7777],
         a: [0x8000, a1, 0xa000, 0xb000, 0xc000, 0xd000, 0xe000, 0xf000],
         flags,
-        told: [0; 6],
+        told: [0; TOLD],
     }
 }
 
@@ -69,7 +70,7 @@ fn as_told(run: Run, v: [u64; COLUMNS]) -> bool {
     same_registers(d, want_d)
         & same_registers(a, want_a)
         & (run.flags == want.flags)
-        & same_numbers(v, 8, told)
+        & same_told(v, 8, 6, told)
 }
 
 // The run that continues another: steps and figures add.

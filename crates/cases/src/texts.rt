@@ -10,9 +10,10 @@ use crate::fields::ROOM;
 use crate::fields::byte;
 use crate::fields::long;
 use crate::fields::numbers_of;
-use crate::fields::same_numbers;
 use crate::fields::same_registers;
+use crate::fields::same_told;
 use crate::fields::text_of;
+use recipe_calls::TOLD;
 
 const FIXED: [u32; 8] = [8, 9, 10, 11, 12, 13, 14, 0xffff_ffff];
 
@@ -46,10 +47,12 @@ fn runs(text: &[u8], v: [u64; COLUMNS]) -> bool {
     let mut d = eight(v, 3);
     let mut a = FIXED;
     let mut flags = byte(v[2]);
-    let mut t = [0u64; 5];
-    recipe_calls::recipe_run(text, &mut d, &mut a, &mut flags, &mut t);
-    let told = [t[0], t[1], t[2], t[3], t[4], flags as u64];
-    same_numbers(v, 11, told) & same_registers(d, eight(v, 17)) & same_registers(a, FIXED)
+    let mut told = [1u64; TOLD];
+    recipe_calls::recipe_run(text, &mut d, &mut a, &mut flags, &mut told);
+    same_told(v, 11, 5, told)
+        & (v[16] == flags as u64)
+        & same_registers(d, eight(v, 17))
+        & same_registers(a, FIXED)
 }
 
 fn runs_as_told(row: &[u8], tab: usize, text: &[u8]) -> bool {

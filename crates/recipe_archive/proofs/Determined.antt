@@ -14,7 +14,6 @@ use Rattle.step.proofs.Determined.{OneExit}
 use Rattle.recipes.specs.Text.{written}
 use Rattle.recipe_calls.specs.Calls.{rowLeft, stateLeft}
 use Rattle.recipe_calls.proofs.Determined as of
-use Rattle.recipe_archive.proofs.recipe_read as recipe-read
 use Rattle.recipe_archive.proofs.recipe_translate as recipe-translate
 use Rattle.recipe_archive.proofs.listing_run as listing-run
 use Rattle.recipe_archive.proofs.listing_print as listing-print
@@ -22,13 +21,8 @@ use Rattle.recipe_archive.proofs.recipe_answer as recipe-answer
 use Rattle.recipe_archive.proofs.recipe_run as recipe-run
 
 module _ {M : Type 1} (𝓤 : URA M) (H : Heap 𝓤) (A : Atoms 𝓤) (mem : Memory → SProp 𝓤) (go : Routine → Fun 𝓤) where
-  pub recipe-read-determined :
-      (κs : Lfts 3) (a : Args recipe-read.signature κs) → OneExit 𝓤 recipe-read.ended κs a (λ r ws. rowLeft (ws .1 .0) (ws .1 .1 .0)) (recipe-read.clauses 𝓤 H A mem go κs a .ensures tt)
-  recipe-read-determined κs a = of.recipe-read-determined 𝓤 H A mem go κs a
-
   pub recipe-translate-determined :
-      (κs : Lfts 3) (a : Args recipe-translate.signature κs) →
-      OneExit 𝓤 recipe-translate.ended κs a (λ r ws. rowLeft (ws .1 .1 .1 .0) (ws .1 .1 .1 .1 .0)) (recipe-translate.clauses 𝓤 H A mem go κs a .ensures tt)
+      (κs : Lfts 3) (a : Args recipe-translate.signature κs) → OneExit 𝓤 recipe-translate.ended κs a (λ r ws. rowLeft (ws .1 .0) (ws .1 .1 .0)) (recipe-translate.clauses 𝓤 H A mem go κs a .ensures tt)
   recipe-translate-determined κs a = of.recipe-translate-determined 𝓤 H A mem go κs a
 
   pub listing-run-determined :

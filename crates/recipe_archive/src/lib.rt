@@ -5,27 +5,14 @@ ghost use mathlib.Core.Path.{_≡_};
 ghost use Rattle.recipes.specs.Text.{written, writing};
 ghost use Rattle.recipes.specs.Printer.{listingText, answerOf};
 ghost use Rattle.recipe_calls.specs.Words.{firstOf};
-ghost use Rattle.recipe_calls.specs.Calls.{rowLeft, stateLeft, readWords, translateWords, runWords, recipeRunWords};
-use recipes::types::LINES_MAX;
+ghost use Rattle.recipe_calls.specs.Calls.{rowLeft, stateLeft, translateWords, runWords, recipeRunWords};
+use recipe_calls::TOLD;
 
 #[no_mangle]
-pub extern "C" fn recipe_read(text: &[u8], lines: &mut [u32; LINES_MAX], told: &mut [u64; 4])
-    ensures { λ _. ⌜ rowLeft (now (lines .exit)) (now (told .exit)) ≡ readWords (now (text .entry)) ⌝ }
+pub extern "C" fn recipe_translate(text: &[u8], listing: &mut [u64], told: &mut [u64; TOLD])
+    ensures { λ _. ⌜ rowLeft (now (listing .exit)) (now (told .exit)) ≡ translateWords (now (text .entry)) (now (listing .entry)) ⌝ }
 {
-    recipe_calls::recipe_read(text, lines, told);
-}
-
-#[no_mangle]
-pub extern "C" fn recipe_translate(
-    width: u8,
-    count: usize,
-    lines: &[u32; LINES_MAX],
-    listing: &mut [u64],
-    told: &mut [u64; 3],
-)
-    ensures { λ _. ⌜ rowLeft (now (listing .exit)) (now (told .exit)) ≡ translateWords width count (now (lines .entry)) (now (listing .entry)) ⌝ }
-{
-    recipe_calls::recipe_translate(width, count, lines, listing, told);
+    recipe_calls::recipe_translate(text, listing, told);
 }
 
 #[no_mangle]
@@ -36,7 +23,7 @@ pub extern "C" fn listing_run(
     flags: &mut u8,
     start: usize,
     budget: u32,
-    told: &mut [u64; 6],
+    told: &mut [u64; TOLD],
 )
     ensures { λ _. ⌜ stateLeft (now (d .exit)) (now (a .exit)) (now (flags .exit)) (now (told .exit)) ≡ runWords (now (listing .entry)) (now (d .entry)) (now (a .entry)) (now (flags .entry)) start budget ⌝ }
 {
@@ -63,7 +50,7 @@ pub extern "C" fn recipe_run(
     d: &mut [u32; 8],
     a: &mut [u32; 8],
     flags: &mut u8,
-    told: &mut [u64; 5],
+    told: &mut [u64; TOLD],
 )
     ensures { λ _. ⌜ stateLeft (now (d .exit)) (now (a .exit)) (now (flags .exit)) (now (told .exit)) ≡ recipeRunWords (now (text .entry)) (now (d .entry)) (now (a .entry)) (now (flags .entry)) ⌝ }
 {

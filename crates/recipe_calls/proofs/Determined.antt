@@ -15,8 +15,7 @@ use Rattle.step.proofs.Determined.{OneExit}
 use Rattle.recipes.specs.Text.{Written, written, writing}
 use Rattle.recipes.specs.Printer.{listingText, answerOf}
 use Rattle.recipe_calls.specs.Words.{firstOf}
-use Rattle.recipe_calls.specs.Calls.{RowLeft, StateLeft, rowLeft, stateLeft, readWords, translateWords, runWords, recipeRunWords}
-use Rattle.recipe_calls.proofs.recipe_read as recipe-read
+use Rattle.recipe_calls.specs.Calls.{RowLeft, StateLeft, rowLeft, stateLeft, translateWords, runWords, recipeRunWords}
 use Rattle.recipe_calls.proofs.recipe_translate as recipe-translate
 use Rattle.recipe_calls.proofs.listing_run as listing-run
 use Rattle.recipe_calls.proofs.listing_print as listing-print
@@ -24,21 +23,13 @@ use Rattle.recipe_calls.proofs.recipe_answer as recipe-answer
 use Rattle.recipe_calls.proofs.recipe_run as recipe-run
 
 module _ {M : Type 1} (𝓤 : URA M) (H : Heap 𝓤) (A : Atoms 𝓤) (mem : Memory → SProp 𝓤) (go : Routine → Fun 𝓤) where
-  pub recipe-read-determined :
-      (κs : Lfts 3) (a : Args recipe-read.signature κs) → OneExit 𝓤 recipe-read.ended κs a (λ r ws. rowLeft (ws .1 .0) (ws .1 .1 .0)) (recipe-read.clauses 𝓤 H A mem go κs a .ensures tt)
-  recipe-read-determined κs a = record {
-    of = readWords (now (a .0));
-    is = λ r ws. refl;
-    all = λ r r′ ws ws′ e. (refl, ap (λ (l : RowLeft). (tt, (l .row, (l .told, tt)))) e);
-  }
-
   pub recipe-translate-determined :
       (κs : Lfts 3) (a : Args recipe-translate.signature κs) →
-      OneExit 𝓤 recipe-translate.ended κs a (λ r ws. rowLeft (ws .1 .1 .1 .0) (ws .1 .1 .1 .1 .0)) (recipe-translate.clauses 𝓤 H A mem go κs a .ensures tt)
+      OneExit 𝓤 recipe-translate.ended κs a (λ r ws. rowLeft (ws .1 .0) (ws .1 .1 .0)) (recipe-translate.clauses 𝓤 H A mem go κs a .ensures tt)
   recipe-translate-determined κs a = record {
-    of = translateWords (a .0) (a .1 .0) (now (a .1 .1 .0)) (now (a .1 .1 .1 .0));
+    of = translateWords (now (a .0)) (now (a .1 .0));
     is = λ r ws. refl;
-    all = λ r r′ ws ws′ e. (refl, ap (λ (l : RowLeft). (tt, (tt, (tt, (l .row, (l .told, tt)))))) e);
+    all = λ r r′ ws ws′ e. (refl, ap (λ (l : RowLeft). (tt, (l .row, (l .told, tt)))) e);
   }
 
   pub listing-run-determined :

@@ -1,7 +1,5 @@
--- Words there and back: the word of a step names that step, and so a listing that is handed out in words is run as it was made; the word of a line
--- names that line. Assumes nothing.
+-- Words there and back: the word of a step names that step, and so a listing that is handed out in words is run as it was made. Assumes nothing.
 --     word-names, words-name   a step, and a listing of at most `arraySlots`
---     line-names               a line
 use Prim.Native.Nat.{ℕ, _+_, _*_, _/_, _%_, _<_, _≤_}
 use mathlib.Core.Path.{_≡_, refl, sym, _∙_}
 use mathlib.Core.List.{List, [], _∷_, map}
@@ -28,15 +26,11 @@ use Rattle.step.specs.declared.steps.Form.{Form}
 use Rattle.step.specs.declared.steps.Form.the-variants as Form
 use Rattle.step.specs.declared.steps.Step.{Step}
 use Rattle.step.specs.Run.{arraySlots}
-use Rattle.recipes.specs.declared.types.Verb.{Verb}
-use Rattle.recipes.specs.declared.types.Verb.the-variants as Verb
-use Rattle.recipes.specs.declared.types.Line.{Line}
 use Rattle.recipe_calls.specs.declared.words.Operation.the-variants.{Unknown, Two, Address, One, Shift, Bit}
 use Rattle.recipe_calls.specs.declared.words.Made.the-variants.{Is}
-use Rattle.recipe_calls.specs.declared.words.Named.the-variants as Named
-use Rattle.recipe_calls.specs.Words.{byteRadix, operations, madeOf, sizedOf, stepOf, firstOf, stepWord, verbs, verbNumber, lineOf, lineWord}
+use Rattle.recipe_calls.specs.Words.{byteRadix, operations, madeOf, sizedOf, stepOf, firstOf, stepWord}
 use Rattle.recipe_calls.specs.Words.{twoNumber, addressNumber, oneNumber, shiftNumber, bitNumber, sizeNumber, operationNumber, sourceKind, sourceNumber, destinationNumber}
-use Rattle.recipe_calls.proofs.Naming.{form-named, line-named}
+use Rattle.recipe_calls.proofs.Naming.{form-named}
 
 -- ---- bytes: what stands in one comes out of it. 256, 65536 .. are the powers of `byteRadix`, as they compute
 
@@ -214,44 +208,3 @@ map-names (k ∷ ks) h = rw (word-names k (h .0), map-names ks (h .1))
 
 pub words-name : (l : List Step) → AllBytes l → length l ≤ arraySlots → firstOf (map stepWord l) ≡ l
 words-name l h few = let all : length (map stepWord l) ≤ arraySlots = rw (length-map l stepWord) few in rw (take-all arraySlots (map stepWord l) all) (map-names l h)
-
--- ---- lines
-
-verb-found : (v : Verb) → getD verbs (verbNumber v) Named.NoVerb ≡ Named.Is v
-verb-found Verb.Clear = refl
-verb-found Verb.Copy = refl
-verb-found Verb.Add = refl
-verb-found Verb.Sub = refl
-verb-found Verb.Neg = refl
-verb-found Verb.Not = refl
-verb-found Verb.Halve = refl
-verb-found Verb.Down = refl
-verb-found Verb.Up = refl
-
-verb-small : (v : Verb) → verbNumber v < byteRadix
-verb-small Verb.Clear = lit< tt
-verb-small Verb.Copy = lit< tt
-verb-small Verb.Add = lit< tt
-verb-small Verb.Sub = lit< tt
-verb-small Verb.Neg = lit< tt
-verb-small Verb.Not = lit< tt
-verb-small Verb.Halve = lit< tt
-verb-small Verb.Down = lit< tt
-verb-small Verb.Up = lit< tt
-
-low : (a b c : ℕ) → a < byteRadix → (a + b * 256 + c * 65536) / 1 % 256 ≡ a
-low a b c h = omega arith
-
-middle : (a b c : ℕ) → a < byteRadix → b < byteRadix → (a + b * 256 + c * 65536) / 256 % 256 ≡ b
-middle a b c h i = omega arith
-
-high : (a b c : ℕ) → a < byteRadix → b < byteRadix → c < byteRadix → (a + b * 256 + c * 65536) / 65536 % 256 ≡ c
-high a b c h i j = omega arith
-
-pub line-names : (l : Line) → l .a < byteRadix → l .b < byteRadix → lineOf (lineWord l) ≡ l
-unfolding lineWord
-line-names l h k =
-    let v = verb-small (l .verb) in
-    let n = verbNumber (l .verb) in
-    sym
-    (line-named (lineWord l) (sym (low n (l .a) (l .b) v)) refl (verb-found (l .verb)) (sym (middle n (l .a) (l .b) v h)) (sym (high n (l .a) (l .b) v h k)))

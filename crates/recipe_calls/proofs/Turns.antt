@@ -14,7 +14,7 @@ use Rattle.alu.specs.declared.types.Size.the-variants.{Byte}
 use Rattle.step.specs.declared.steps.TwoOp.the-variants.{Add}
 use Rattle.step.specs.declared.steps.Form.the-variants.{Two}
 use Rattle.step.specs.declared.steps.Step.{Step}
-use Rattle.recipe_calls.specs.Calls.{over}
+use Rattle.recipes.specs.Listing.{over}
 
 map-snoc : {A B : Type 0} (f : A → B) (l : List A) (a : A) → map f (l ++ (a ∷ [])) ≡ map f l ++ (f a ∷ [])
 map-snoc f [] a = refl

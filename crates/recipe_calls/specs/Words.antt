@@ -1,8 +1,8 @@
--- A step, and a line of a recipe, as one number: words for a caller in another language. Assumes nothing.
-use Prim.Native.Nat.{ℕ, _+_, _-_, _*_, _/_, _%_, _^_}
-use mathlib.Core.Bool.{Bool, cond, not, _&&_}
+-- A step as one number: a word for a caller in another language. Assumes nothing.
+use Prim.Native.Nat.{ℕ, _+_, _*_, _/_, _%_, _^_}
+use mathlib.Core.Bool.{cond}
 use mathlib.Core.List.{List, [], _∷_, map}
-use lib.Dec.{eqb, ltb}
+use lib.Dec.{eqb}
 use lib.ListN.{getD, take}
 use Rattle.alu.specs.declared.types.Size.{Size}
 use Rattle.alu.specs.declared.types.Size.the-variants.{Byte, Word, Long}
@@ -26,15 +26,10 @@ use Rattle.step.specs.declared.steps.Form.{Form}
 use Rattle.step.specs.declared.steps.Form.the-variants as Form
 use Rattle.step.specs.declared.steps.Step.{Step}
 use Rattle.step.specs.Run.{arraySlots}
-use Rattle.recipes.specs.declared.types.Verb.{Verb}
-use Rattle.recipes.specs.declared.types.Verb.the-variants as Verb
-use Rattle.recipes.specs.declared.types.Line.{Line}
 use Rattle.recipe_calls.specs.declared.words.Operation.{Operation}
 use Rattle.recipe_calls.specs.declared.words.Operation.the-variants.{Two, Address, Quick, QuickAddress, One, Shift, Bit, Chk, Unknown}
 use Rattle.recipe_calls.specs.declared.words.Made.{Made}
 use Rattle.recipe_calls.specs.declared.words.Made.the-variants.{Is, NoForm}
-use Rattle.recipe_calls.specs.declared.words.Named.{Named}
-use Rattle.recipe_calls.specs.declared.words.Named.the-variants as Named
 
 -- a byte holds a number below this
 abbrev pub byteRadix : ℕ
@@ -45,7 +40,8 @@ abbrev pub byteOf : (i word : ℕ) → ℕ
 byteOf i word = word / byteRadix ^ i % byteRadix
 
 -- ---- a step: byte 0 is the operation, 1 the size (0 byte, 1 word, 2 long), 2 the source's kind (0 none, 1 a small number, 2 a data register, 3 an
--- address register), 3 the source's number, 4 the destination's register number. The bytes above do not count, nor byte 3 where the kind is 0
+-- address register), 3 the source's number, 4 the destination's register number. Bytes 5 to 7 are kept for later: a word is written with 0 there, and
+-- read whatever they hold. Byte 3 does not count where the kind is 0
 
 -- the operations by number, from 0, as `alu_call` numbers them (`operations` of calls/specs/Packed). ADDQ and SUBQ stand twice: on a data register
 -- and on an address register
@@ -206,41 +202,3 @@ unfoldable pub stepWord : Step → ℕ
 stepWord k =
     operationNumber (k .form) + sizeNumber (k .size) * byteRadix ^ 1 + sourceKind (k .form) * byteRadix ^ 2 + sourceNumber (k .form) * byteRadix ^ 3
     + destinationNumber (k .form) * byteRadix ^ 4
-
--- ---- a line: byte 0 is the verb, 1 and 2 are a and b. The byte above does not count
-
--- the verbs by number, from 0, in the order of document 01's table
-abbrev pub verbs : List Named
-verbs =
-    Named.Is Verb.Clear ∷ Named.Is Verb.Copy ∷ Named.Is Verb.Add ∷ Named.Is Verb.Sub ∷ Named.Is Verb.Neg ∷ Named.Is Verb.Not ∷
-    Named.Is Verb.Halve ∷ Named.Is Verb.Down ∷ Named.Is Verb.Up ∷ []
-
-abbrev pub verbNumber : Verb → ℕ
-verbNumber Verb.Clear = 0
-verbNumber Verb.Copy = 1
-verbNumber Verb.Add = 2
-verbNumber Verb.Sub = 3
-verbNumber Verb.Neg = 4
-verbNumber Verb.Not = 5
-verbNumber Verb.Halve = 6
-verbNumber Verb.Down = 7
-verbNumber Verb.Up = 8
-
--- where the word names no verb, a line with a number that no recipe has: the translator refuses it with 6, which `saidOf` turns into 5
-abbrev pub lineNamed : Named → (a b : ℕ) → Line
-lineNamed (Named.Is verb) a b = record { verb = verb; a = a; b = b }
-lineNamed Named.NoVerb a b = record { verb = Verb.Clear; a = 255; b = 0 }
-
-unfoldable pub lineOf : (word : ℕ) → Line
-lineOf word = lineNamed (getD verbs (byteOf 0 word) Named.NoVerb) (byteOf 1 word) (byteOf 2 word)
-
-unfoldable pub lineWord : Line → ℕ
-lineWord l = verbNumber (l .verb) + l .a * byteRadix ^ 1 + l .b * byteRadix ^ 2
-
-abbrev pub namesVerb : (word : ℕ) → Bool
-namesVerb word = ltb (byteOf 0 word) 9
-
--- the refusal number that is told of a recipe in words: an unknown verb is 5, as in a text, in the place of the 6 that its line gets. Text line k + 2 is
--- word k
-unfoldable pub saidOf : (words : List ℕ) → (number line : ℕ) → ℕ
-saidOf words number line = cond (eqb number 6 && not (namesVerb (getD words (line - 2) 0))) 5 number

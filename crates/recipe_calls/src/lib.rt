@@ -1,18 +1,18 @@
 // Recipes, listings and runs for Rust and C: every argument and every answer is a number, or a row of numbers that is lent.
-// The crate recipe_archive exports these functions; bindings/c/gromavelush.h shows how steps and lines are laid out in words.
+// The crate recipe_archive exports these functions; bindings/c/gromavelush.h shows how a step is laid out in a word. What a
+// call tells stands in a row of `TOLD` numbers, and those without a meaning are 0.
 //
 // Every function takes every input: none has a `requires`. A word that names no step stands for one that is refused
-// with 2; a recipe's word that names no verb is refused with 5 and its text line.
+// with 2.
 mod rows;
 mod words;
 
 ghost use mathlib.Core.Path.{_≡_};
-ghost use lib.ListN.{length};
 ghost use Rattle.step.specs.Run.{endNumbers};
 ghost use Rattle.recipes.specs.Text.{written, writing};
 ghost use Rattle.recipes.specs.Printer.{listingText, answerOf};
 ghost use Rattle.recipe_calls.specs.Words.{firstOf};
-ghost use Rattle.recipe_calls.specs.Calls.{rowLeft, stateLeft, readWords, translateWords, runWords, promisedOf, ccrAfter, recipeRunWords};
+ghost use Rattle.recipe_calls.specs.Calls.{rowLeft, stateLeft, translationTold, translateWords, runWords, promisedOf, ccrAfter, recipeRunWords};
 use calls::ccr;
 use calls::flags_of;
 use recipes::printer::answer;
@@ -21,19 +21,17 @@ use recipes::reader::read;
 use recipes::runner::run_text;
 use recipes::translator::translate_array;
 use recipes::types::Codes;
-use recipes::types::LINES_MAX;
-use recipes::types::Recipe;
 use recipes::types::Refusal;
 use recipes::types::number;
-use rows::line_words;
-use rows::lines_of;
 use rows::put_steps;
-use rows::said;
 use rows::steps_of;
 use step::registers::State;
 use step::runs::End;
 use step::runs::run_array;
 use step::steps::class;
+
+// The numbers that a call tells.
+pub const TOLD: usize = 8;
 
 fn wide(x: u8) -> u64
     ensures { λ r. ⌜ r ≡ x ⌝ }
@@ -47,51 +45,34 @@ fn long(x: u32) -> u64
     x as u64
 }
 
-// Reads a recipe text. `lines` gets its lines, `told` the refusal number, its text line, the width and the number of lines.
-pub fn recipe_read(text: &[u8], lines: &mut [u32; LINES_MAX], told: &mut [u64; 4])
-    ensures { λ _. ⌜ rowLeft (now (lines .exit)) (now (told .exit)) ≡ readWords (now (text .entry)) ⌝ }
+// What is told of a translation.
+fn translation_told(refusal: Refusal, line: usize, steps: usize) -> [u64; TOLD]
+    ensures { λ r. ⌜ r ≡ translationTold refusal line steps ⌝ }
 {
-    let reading = read(text);
-    let refusal = reading.refusal;
-    let recipe = reading.recipe;
-    let made = recipe.lines;
-    *lines = line_words(made);
-    *told = [
-        wide(number(refusal)),
-        reading.line as u64,
-        wide(recipe.width),
-        recipe.count as u64,
-    ];
+    let number = wide(number(refusal));
+    [number, line as u64, steps as u64, 0, 0, 0, 0, 0]
 }
 
-// Translates a recipe into a listing. `told` gets the refusal number, its text line and the number of steps.
-pub fn recipe_translate(
-    width: u8,
-    count: usize,
-    lines: &[u32; LINES_MAX],
-    listing: &mut [u64],
-    told: &mut [u64; 3],
-)
-    ensures { λ _. ⌜ rowLeft (now (listing .exit)) (now (told .exit)) ≡ translateWords width count (now (lines .entry)) (now (listing .entry)) ⌝ }
+// Reads a recipe text and translates it into a listing. `told` gets the refusal number, its text line and the number of steps.
+pub fn recipe_translate(text: &[u8], listing: &mut [u64], told: &mut [u64; TOLD])
+    ensures { λ _. ⌜ rowLeft (now (listing .exit)) (now (told .exit)) ≡ translateWords (now (text .entry)) (now (listing .entry)) ⌝ }
 {
-    let words = *lines;
-    let made = translate_array(Recipe {
-        width,
-        count,
-        lines: lines_of(words),
-    });
+    let reading = read(text);
+    let slip = reading.refusal;
+    let recipe = reading.recipe;
+    if number(slip) != 0 {
+        *told = translation_told(slip, reading.line, 0);
+        return;
+    }
+    let made = translate_array(recipe);
     let refusal = made.refusal;
     let steps = made.steps;
     if listing.len() < made.count {
-        *told = [wide(number(Refusal::NoSpace)), 0, 0];
+        *told = translation_told(Refusal::NoSpace, 0, 0);
         return;
     }
     put_steps(steps, made.count, listing);
-    *told = [
-        wide(said(words, number(refusal), made.line)),
-        made.line as u64,
-        made.count as u64,
-    ];
+    *told = translation_told(refusal, made.line, made.count);
 }
 
 // Which of the four ends it is, its trap's class or its refusal's number, and the place of either.
@@ -115,7 +96,7 @@ pub fn listing_run(
     flags: &mut u8,
     start: usize,
     budget: u32,
-    told: &mut [u64; 6],
+    told: &mut [u64; TOLD],
 )
     ensures { λ _. ⌜ stateLeft (now (d .exit)) (now (a .exit)) (now (flags .exit)) (now (told .exit)) ≡ runWords (now (listing .entry)) (now (d .entry)) (now (a .entry)) (now (flags .entry)) start budget ⌝ }
 {
@@ -143,6 +124,8 @@ pub fn listing_run(
         ran.next as u64,
         long(ran.steps),
         ran.clocks,
+        0,
+        0,
     ];
 }
 
@@ -187,7 +170,7 @@ pub fn recipe_run(
     d: &mut [u32; 8],
     a: &mut [u32; 8],
     flags: &mut u8,
-    told: &mut [u64; 5],
+    told: &mut [u64; TOLD],
 )
     ensures { λ _. ⌜ stateLeft (now (d .exit)) (now (a .exit)) (now (flags .exit)) (now (told .exit)) ≡ recipeRunWords (now (text .entry)) (now (d .entry)) (now (a .entry)) (now (flags .entry)) ⌝ }
 {
@@ -212,5 +195,8 @@ pub fn recipe_run(
         wide(promised(codes)),
         long(ran.steps),
         ran.clocks,
+        0,
+        0,
+        0,
     ];
 }

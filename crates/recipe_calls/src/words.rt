@@ -1,19 +1,15 @@
-// A step, and a line of a recipe, as one number, laid out as `specs/Words.antt` says. An operation has the number by which
-// `alu_call` knows it. In a contract `only` and `either` are the definitions of specs/, not the functions here.
+// A step as one number, laid out as `specs/Words.antt` says. An operation has the number by which `alu_call` knows it.
+// In a contract `only` and `either` are the definitions of specs/, not the functions here.
 ghost use mathlib.Core.Path.{_≡_};
 ghost use Prim.Native.Nat.{_<_, _^_, _%_};
 ghost use lib.ListN.{getD};
 ghost use Rattle.recipe_calls.specs.declared.words.Operation.the-variants as Operation;
-ghost use Rattle.recipe_calls.specs.declared.words.Named.the-variants as Named;
 ghost use Rattle.recipe_calls.specs.Words.{byteRadix, operations, only, either, madeOf, noStep, sizedOf, stepOf};
 ghost use Rattle.recipe_calls.specs.Words.{twoNumber, addressNumber, quickNumber, oneNumber, shiftNumber, bitNumber, sizeNumber, operationNumber};
 ghost use Rattle.recipe_calls.specs.Words.{registerKind, registerNumber, countKind, countNumber, sourceKind, sourceNumber, destinationNumber, stepWord};
-ghost use Rattle.recipe_calls.specs.Words.{verbs, verbNumber, namesVerb, lineOf, lineWord};
 use alu::bit_manip::BitOp;
 use alu::shift_rotate::ShiftOp;
 use alu::types::Size;
-use recipes::types::Line;
-use recipes::types::Verb;
 use step::registers::A;
 use step::registers::D;
 use step::steps::AddressOp;
@@ -42,12 +38,6 @@ pub(crate) enum Operation {
 pub(crate) enum Made {
     Is(Form),
     NoForm,
-}
-
-// What a line's first byte names.
-pub(crate) enum Named {
-    Is(Verb),
-    NoVerb,
 }
 
 // The kinds of a source.
@@ -410,79 +400,4 @@ pub(crate) fn step_word(step: Step) -> u64
         + wide(source_kind(form)) * 0x1_0000
         + wide(source_number(form)) * 0x100_0000
         + wide(destination_number(form)) * 0x1_0000_0000
-}
-
-// ---- lines
-
-fn verb_of(number: u8) -> Named
-    ensures { λ r. ⌜ r ≡ getD verbs number Named.NoVerb ⌝ }
-{
-    match number {
-        0 => Named::Is(Verb::Clear),
-        1 => Named::Is(Verb::Copy),
-        2 => Named::Is(Verb::Add),
-        3 => Named::Is(Verb::Sub),
-        4 => Named::Is(Verb::Neg),
-        5 => Named::Is(Verb::Not),
-        6 => Named::Is(Verb::Halve),
-        7 => Named::Is(Verb::Down),
-        8 => Named::Is(Verb::Up),
-        _ => Named::NoVerb,
-    }
-}
-
-fn verb_number(verb: Verb) -> u8
-    ensures { λ r. ⌜ r ≡ verbNumber verb ⌝ }
-{
-    match verb {
-        Verb::Clear => 0,
-        Verb::Copy => 1,
-        Verb::Add => 2,
-        Verb::Sub => 3,
-        Verb::Neg => 4,
-        Verb::Not => 5,
-        Verb::Halve => 6,
-        Verb::Down => 7,
-        Verb::Up => 8,
-    }
-}
-
-// Whether a line's word names a verb.
-pub(crate) fn names_verb(word: u32) -> bool
-    ensures { λ r. ⌜ r ≡ namesVerb word ⌝ }
-{
-    byte(word as u64) < 9
-}
-
-// The line that a word names. Where it names no verb: a line with a number that no recipe has.
-pub(crate) fn line_of(word: u32) -> Line
-    ensures { λ r. ⌜ r ≡ lineOf word ⌝ }
-{
-    let word = word as u64;
-    match verb_of(byte(word)) {
-        Named::Is(verb) => Line {
-            verb,
-            a: byte(word / 0x100),
-            b: byte(word / 0x1_0000),
-        },
-        Named::NoVerb => Line {
-            verb: Verb::Clear,
-            a: 255,
-            b: 0,
-        },
-    }
-}
-
-fn long(x: u8) -> u32
-    ensures { λ r. ⌜ (r ≡ x) × (r < 2 ^ 8) ⌝ }
-{
-    x as u32
-}
-
-// A line's word.
-pub(crate) fn line_word(line: Line) -> u32
-    ensures { λ r. ⌜ r ≡ lineWord line ⌝ }
-{
-    let verb = line.verb;
-    long(verb_number(verb)) + long(line.a) * 0x100 + long(line.b) * 0x1_0000
 }

@@ -2,7 +2,7 @@ pub mod Texts
 pub mod Writing
 pub mod Steps
 pub mod Accepting
-mod Settling
+pub mod Settling
 mod Lines
 mod Places
 mod Judging

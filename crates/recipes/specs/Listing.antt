@@ -163,8 +163,8 @@ module _ {R : Type 0} (refused : Refusal → ℕ → R) where
 
 -- ---- the translation, into a row of slots
 
--- steps written to the front of a row: the slots past them stay
-abbrev pub over : (new old : List Step) → List Step
+-- a row written to the front of another: what is past it stays
+abbrev pub over : {A : Type 0} → (new old : List A) → List A
 over new old = new ++ drop (length new) old
 
 -- (a `Listing` here has a row of any length; that of the code has `arraySlots`)
