@@ -5,7 +5,7 @@ use Prim.Native.Nat.{ℕ, _%_}
 use mathlib.Core.Path.{_≡_, refl, sym, ap, _∙_}
 use native.Mathlib.Nat.{div-one}
 use lib.ListN.{getD}
-use Rattle.step.specs.declared.steps.Form.{Form}
+use Rattle.step.specs.declared.forms.Form.{Form}
 use Rattle.recipe_calls.specs.declared.words.Operation.{Operation}
 use Rattle.recipe_calls.specs.declared.words.Operation.the-variants.{Unknown}
 use Rattle.recipe_calls.specs.declared.words.Made.{Made}

@@ -1,22 +1,26 @@
 -- Laws of what is told of a run and of a translation. Assumes nothing.
---     end-told      the three numbers of an end, one by one
---     fits, short   a translation made in an array, handed to a row that has room for it, and to one that has not: it is the translation into as many slots
+--     end-told          the three numbers of an end, one by one
+--     slipped, passed   a text that the reader refuses, and one that it reads
+--     fits, short       a translation made in an array, handed to a row that has room for it, and to one that has not: it is the translation into as many slots
 use Prim.Native.Nat.{ℕ, _≤_, _<_}
 use mathlib.Core.Path.{_≡_, refl, sym, ap, _∙_}
 use mathlib.Core.List.{List, [], _∷_, _++_, map}
-use borrow.Author.Tests.{le-ltb, lt-ltb}
+use borrow.Author.Tests.{eq-eqb, ne-eqb, le-ltb, lt-ltb}
 use lib.ListN.{length, getD, take, drop, replicate, length-replicate}
 use lib.Seq.{take-at, length-take-le}
-use Rattle.step.specs.declared.steps.Step.{Step}
+use Rattle.step.specs.declared.forms.Step.{Step}
 use Rattle.step.specs.declared.runs.End.{End}
 use Rattle.step.specs.declared.runs.End.the-variants.{Finished, Budget, Trapped, Refused}
 use Rattle.step.specs.Run.{endNumbers}
 use Rattle.recipes.specs.declared.types.Recipe.{Recipe}
 use Rattle.recipes.specs.declared.types.Refusal.the-variants.{NoSpace}
+use Rattle.recipes.specs.declared.types.Reading.{Reading}
+use Rattle.recipes.specs.Recipe.{numberOf}
+use Rattle.recipes.specs.Reader.{readOf}
 use Rattle.recipes.specs.Listing.{over, blank, blanks, translateOf}
-use Rattle.recipes.proofs.Settling.{translate-lent}
+use Rattle.recipes.proofs.Settling.{blanks-hold, translate-lent}
 use Rattle.recipe_calls.specs.Words.{stepWord}
-use Rattle.recipe_calls.specs.Calls.{rowLeft, translationTold, listedIn}
+use Rattle.recipe_calls.specs.Calls.{rowLeft, translationTold, listedIn, translateWords}
 
 pub end-told : (e : End) (rest : List ℕ) → getD (endNumbers e) 0 0 ∷ getD (endNumbers e) 1 0 ∷ getD (endNumbers e) 2 0 ∷ rest ≡ endNumbers e ++ rest
 end-told Finished rest = refl
@@ -28,15 +32,25 @@ end-told (Refused fault place) rest = refl
 abbrev slots : List ℕ → List Step
 slots row = replicate (length row) blank
 
+pub slipped :
+    (text row : List ℕ) (r : Reading) {n : ℕ} → r ≡ readOf text → n ≡ numberOf (r .refusal) → (n ≡ 0 → ⊥) →
+    rowLeft row (translationTold (r .refusal) (r .line) 0) ≡ translateWords text row
+slipped text row r is n some = rw (← is, ne-eqb (numberOf (r .refusal)) 0 (λ z. some (n ∙ z)))
+
+pub passed :
+    (text row : List ℕ) (r : Reading) {n : ℕ} → r ≡ readOf text → n ≡ numberOf (r .refusal) → n ≡ 0 →
+    listedIn row (translateOf (r .recipe) (slots row)) ≡ translateWords text row
+passed text row r is n none = rw (← is, eq-eqb (numberOf (r .refusal)) 0 (sym n ∙ none))
+
 pub fits :
-    (row : List ℕ) (r : Recipe) → translateOf r blanks .count ≤ length row → translateOf r blanks .count ≤ length (translateOf r blanks .steps) →
+    (row : List ℕ) (r : Recipe) → translateOf r blanks .count ≤ length row →
     listedIn row (translateOf r blanks) ≡ listedIn row (translateOf r (slots row))
-fits row r room all =
+fits row r room =
     let t = translateOf r blanks in
     let enough : t .count ≤ length (slots row) = rw (length-replicate) room in
     sym
     (ap (listedIn row) (sym (translate-lent r (slots row)))
-    ∙ rw (le-ltb (length (slots row)) (t .count) enough, take-at (take (t .count) (t .steps)) (drop (t .count) (slots row)) (t .count) (length-take-le (t .count) (t .steps) all)))
+    ∙ rw (le-ltb (length (slots row)) (t .count) enough, take-at (take (t .count) (t .steps)) (drop (t .count) (slots row)) (t .count) (length-take-le (t .count) (t .steps) (blanks-hold r))))
 
 pub short : (row : List ℕ) (r : Recipe) → length row < translateOf r blanks .count → rowLeft row (translationTold NoSpace 0 0) ≡ listedIn row (translateOf r (slots row))
 short row r room =

@@ -11,9 +11,9 @@ use native.Mathlib.Omega.{arith}
 use lib.ListN.{length, take, drop, getD, set, length-map}
 use lib.Seq.{take-all, take-suc, take-suc-set, drop-cons, set-at, length-take-le}
 use Rattle.alu.specs.declared.types.Size.the-variants.{Byte}
-use Rattle.step.specs.declared.steps.TwoOp.the-variants.{Add}
-use Rattle.step.specs.declared.steps.Form.the-variants.{Two}
-use Rattle.step.specs.declared.steps.Step.{Step}
+use Rattle.step.specs.declared.forms.TwoOp.the-variants.{Add}
+use Rattle.step.specs.declared.forms.Form.the-variants.{Two}
+use Rattle.step.specs.declared.forms.Step.{Step}
 use Rattle.recipes.specs.Listing.{over}
 
 map-snoc : {A B : Type 0} (f : A → B) (l : List A) (a : A) → map f (l ++ (a ∷ [])) ≡ map f l ++ (f a ∷ [])

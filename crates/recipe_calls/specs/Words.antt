@@ -10,21 +10,21 @@ use Rattle.alu.specs.declared.shift_rotate.ShiftOp.{ShiftOp}
 use Rattle.alu.specs.declared.shift_rotate.ShiftOp.the-variants.{Asl, Asr, Lsl, Lsr, Rol, Ror, Roxl, Roxr}
 use Rattle.alu.specs.declared.bit_manip.BitOp.{BitOp}
 use Rattle.alu.specs.declared.bit_manip.BitOp.the-variants.{Btst, Bset, Bclr, Bchg}
-use Rattle.step.specs.declared.steps.TwoOp.{TwoOp}
-use Rattle.step.specs.declared.steps.TwoOp.the-variants.{Add, Sub, Cmp, Addx, Subx}
-use Rattle.step.specs.declared.steps.AddressOp.{AddressOp}
-use Rattle.step.specs.declared.steps.AddressOp.the-variants.{Adda, Suba, Cmpa}
-use Rattle.step.specs.declared.steps.QuickOp.{QuickOp}
-use Rattle.step.specs.declared.steps.QuickOp.the-variants.{Addq, Subq}
-use Rattle.step.specs.declared.steps.OneOp.{OneOp}
-use Rattle.step.specs.declared.steps.OneOp.the-variants.{Clr, Neg, Negx, Not, Ext}
-use Rattle.step.specs.declared.steps.Register.{Register}
-use Rattle.step.specs.declared.steps.Register.the-variants as Register
-use Rattle.step.specs.declared.steps.Count.{Count}
-use Rattle.step.specs.declared.steps.Count.the-variants as Count
-use Rattle.step.specs.declared.steps.Form.{Form}
-use Rattle.step.specs.declared.steps.Form.the-variants as Form
-use Rattle.step.specs.declared.steps.Step.{Step}
+use Rattle.step.specs.declared.forms.TwoOp.{TwoOp}
+use Rattle.step.specs.declared.forms.TwoOp.the-variants.{Add, Sub, Cmp, Addx, Subx}
+use Rattle.step.specs.declared.forms.AddressOp.{AddressOp}
+use Rattle.step.specs.declared.forms.AddressOp.the-variants.{Adda, Suba, Cmpa}
+use Rattle.step.specs.declared.forms.QuickOp.{QuickOp}
+use Rattle.step.specs.declared.forms.QuickOp.the-variants.{Addq, Subq}
+use Rattle.step.specs.declared.forms.OneOp.{OneOp}
+use Rattle.step.specs.declared.forms.OneOp.the-variants.{Clr, Neg, Negx, Not, Ext}
+use Rattle.step.specs.declared.forms.Register.{Register}
+use Rattle.step.specs.declared.forms.Register.the-variants as Register
+use Rattle.step.specs.declared.forms.Count.{Count}
+use Rattle.step.specs.declared.forms.Count.the-variants as Count
+use Rattle.step.specs.declared.forms.Form.{Form}
+use Rattle.step.specs.declared.forms.Form.the-variants as Form
+use Rattle.step.specs.declared.forms.Step.{Step}
 use Rattle.step.specs.Run.{arraySlots}
 use Rattle.recipe_calls.specs.declared.words.Operation.{Operation}
 use Rattle.recipe_calls.specs.declared.words.Operation.the-variants.{Two, Address, Quick, QuickAddress, One, Shift, Bit, Chk, Unknown}

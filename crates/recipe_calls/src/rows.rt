@@ -8,8 +8,8 @@ ghost use Rattle.recipe_calls.specs.Words.{stepWord, firstOf};
 use super::words::no_step;
 use super::words::step_of;
 use super::words::step_word;
+use step::forms::Step;
 use step::runs::SLOTS;
-use step::steps::Step;
 
 fn lesser(a: usize, b: usize) -> usize
     ensures { λ r. ⌜ r ≡ min a b ⌝ }

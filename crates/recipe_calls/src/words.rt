@@ -10,16 +10,16 @@ ghost use Rattle.recipe_calls.specs.Words.{registerKind, registerNumber,
 use alu::bit_manip::BitOp;
 use alu::shift_rotate::ShiftOp;
 use alu::types::Size;
+use step::forms::AddressOp;
+use step::forms::Count;
+use step::forms::Form;
+use step::forms::OneOp;
+use step::forms::QuickOp;
+use step::forms::Register;
+use step::forms::Step;
+use step::forms::TwoOp;
 use step::registers::A;
 use step::registers::D;
-use step::steps::AddressOp;
-use step::steps::Count;
-use step::steps::Form;
-use step::steps::OneOp;
-use step::steps::QuickOp;
-use step::steps::Register;
-use step::steps::Step;
-use step::steps::TwoOp;
 
 // What an operation's number names: the form that it has, but for the operands.
 pub(crate) enum Operation {

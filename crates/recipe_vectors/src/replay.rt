@@ -9,11 +9,11 @@ use recipes::translator::translate_array;
 use recipes::types::Codes;
 use recipes::types::RecipeRun;
 use recipes::types::number;
+use step::forms::Step;
 use step::runs::End;
 use step::runs::Ran;
 use step::runs::SLOTS;
 use step::runs::run_array;
-use step::steps::Step;
 
 // What is not as it ought to be.
 pub(crate) enum Slip {

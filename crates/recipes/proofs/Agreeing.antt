@@ -11,7 +11,7 @@ use borrow.Author.Tests.{le-leb, leb-true, eqb-false}
 use lib.Dec.{eqb, leb}
 use lib.ListN.{length, length-append, replicate}
 use lib.Seq.{take-append-seam}
-use Rattle.step.specs.declared.steps.Step.{Step}
+use Rattle.step.specs.declared.forms.Step.{Step}
 use Rattle.recipes.specs.declared.types.Verb.{Verb}
 use Rattle.recipes.specs.declared.types.Line.{Line}
 use Rattle.recipes.specs.declared.types.Listing.{Listing}

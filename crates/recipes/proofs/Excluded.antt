@@ -22,8 +22,8 @@ use Rattle.alu.specs.Bits.{low, top}
 use Rattle.alu.specs.ConditionCodes.{addFlags, negFlags}
 use Rattle.alu.specs.Arith.{sum, difference, addOf}
 use Rattle.step.specs.declared.registers.State.{State}
-use Rattle.step.specs.declared.steps.TwoOp.the-variants as TwoOp
-use Rattle.step.specs.declared.steps.Step.{Step}
+use Rattle.step.specs.declared.forms.TwoOp.the-variants as TwoOp
+use Rattle.step.specs.declared.forms.Step.{Step}
 use Rattle.step.specs.declared.runs.Ran.{Ran}
 use Rattle.step.specs.Perform.{performOf}
 use Rattle.step.specs.Run.{runOf}

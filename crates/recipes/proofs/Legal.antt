@@ -8,8 +8,8 @@ use mathlib.Core.List.{List, [], _∷_, _++_}
 use Prim.Native.Nat.{ℕ, zero, suc, _+_, _*_, _/_, _≤_, _<_}
 use native.Mathlib.Omega.{arith}
 use Rattle.step.specs.declared.registers.State.{State}
-use Rattle.step.specs.declared.steps.OneOp.the-variants.{Clr}
-use Rattle.step.specs.declared.steps.Step.{Step}
+use Rattle.step.specs.declared.forms.OneOp.the-variants.{Clr}
+use Rattle.step.specs.declared.forms.Step.{Step}
 use Rattle.step.specs.Perform.{performOf}
 use Rattle.step.proofs.Promises.{Legal, performs}
 use Rattle.step.proofs.Leading.{All}

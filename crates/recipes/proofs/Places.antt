@@ -12,8 +12,8 @@ use borrow.Author.Tests.{eqb-true, ne-eqb}
 use lib.Dec.{eqb}
 use lib.ListN.{length, take, getD, List·getD-append}
 use lib.Seq.{getD-append-add}
-use Rattle.step.specs.declared.steps.OneOp.the-variants.{Clr}
-use Rattle.step.specs.declared.steps.Step.{Step}
+use Rattle.step.specs.declared.forms.OneOp.the-variants.{Clr}
+use Rattle.step.specs.declared.forms.Step.{Step}
 use Rattle.recipes.specs.declared.types.Verb.{Verb}
 use Rattle.recipes.specs.declared.types.Line.{Line}
 use Rattle.recipes.specs.Recipe.{isCopy, target, unused}

@@ -11,9 +11,9 @@ use lib.Dec.{ltb}
 use lib.ListN.{length, take, getD}
 use lib.Seq.{take-suc, take-all, length-take-le}
 use Rattle.alu.specs.declared.types.Size.the-variants.{Byte}
-use Rattle.step.specs.declared.steps.TwoOp.the-variants.{Add}
-use Rattle.step.specs.declared.steps.Form.the-variants.{Two}
-use Rattle.step.specs.declared.steps.Step.{Step}
+use Rattle.step.specs.declared.forms.TwoOp.the-variants.{Add}
+use Rattle.step.specs.declared.forms.Form.the-variants.{Two}
+use Rattle.step.specs.declared.forms.Step.{Step}
 use Rattle.recipes.specs.Listing.{figureOf, clocksOf}
 use Rattle.recipes.specs.Printer.{stepText, stepsText}
 

@@ -8,7 +8,7 @@ use lib.ListN.{length, getD, set, length-set}
 use lib.Seq.{sets, getD-set-other, set-comm, length-sets}
 use Rattle.alu.specs.declared.types.Flags.{Flags}
 use Rattle.step.specs.declared.registers.State.{State}
-use Rattle.step.specs.declared.steps.Step.{Step}
+use Rattle.step.specs.declared.forms.Step.{Step}
 use Rattle.step.proofs.Promises.{Left, Alu, register, put, applied}
 use Rattle.step.proofs.Leading.{executed}
 use Rattle.recipes.specs.declared.types.Verb.{Verb}

@@ -3,8 +3,9 @@
 --     laid            and laid out it is the translation into blank slots
 --     translate-lent  and copied from there it is the translation into the slots that are lent
 --     blanks-count    a translation in an array has at most `stepsMax` steps
+--     blanks-hold     and no more than the array
 --     settled-room    what is told of it for a row of slots has no more steps than the row
---     settled-count   and no more than the array
+--     settled-count   and no more than the array has
 use Prim.Native.Nat.{ℕ, _+_, _≤_, _<_, min}
 use mathlib.Core.Bool.{Bool, true, false, cond}
 use mathlib.Core.List.{List, _++_}
@@ -13,9 +14,9 @@ use native.Mathlib.Omega.{arith}
 use borrow.Author.Tests.{le-leb, lt-leb, le-ltb, lt-ltb, ltb-false}
 use native.Mathlib.Decide.{decLe}
 use lib.Dec.{leb, ltb}
-use lib.ListN.{length, take, drop, length-take, length-replicate}
+use lib.ListN.{length, take, drop, length-append, length-take, length-replicate}
 use lib.Seq.{take-at}
-use Rattle.step.specs.declared.steps.Step.{Step}
+use Rattle.step.specs.declared.forms.Step.{Step}
 use Rattle.step.specs.Run.{arraySlots}
 use Rattle.recipes.specs.declared.types.Line.{Line}
 use Rattle.recipes.specs.declared.types.Recipe.{Recipe}
@@ -113,6 +114,17 @@ blanks-count r =
   where
     there : (0 < r .width) × (r .width ≤ 4) → r .count ≤ linesMax → whole (r .width) (recipeLines r) blanks .count ≤ stepsMax
     there w c = rw (whole-fits (r .width) (recipeLines r) blanks (blanks-fit r (w .1) c)) (few-steps r (w .1) c)
+
+pub blanks-hold : (r : Recipe) → translateOf r blanks .count ≤ length (translateOf r blanks .steps)
+unfolding translateOf
+blanks-hold r =
+    tests-agree (λ (l _ : Listing). l .count ≤ length (l .steps)) (λ k line. listed k line 0 blanks) (λ k line. listed k line 0 blanks) (λ k line e. omega arith) r
+    (whole (r .width) (recipeLines r) blanks) (whole (r .width) (recipeLines r) blanks) (λ g. there (width-is (r .width) (g .width)) (g .few))
+  where
+    there : (0 < r .width) × (r .width ≤ 4) → r .count ≤ linesMax → whole (r .width) (recipeLines r) blanks .count ≤ length (whole (r .width) (recipeLines r) blanks .steps)
+    there w c =
+        let all = listing-steps (r .width) (recipeLines r) in
+        rw (whole-fits (r .width) (recipeLines r) blanks (blanks-fit r (w .1) c), length-append) (omega arith)
 
 pub settled-room : (made : Listing) (room : ℕ) → settledOf made room .count ≤ room
 settled-room made room = go (ltb room (made .count)) refl

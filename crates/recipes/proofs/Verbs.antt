@@ -11,8 +11,8 @@ use Rattle.alu.specs.declared.types.Flags.{Flags}
 use Rattle.alu.specs.declared.shift_rotate.ShiftOp.the-variants.{Roxl, Roxr}
 use Rattle.alu.specs.Bits.{top, digit}
 use Rattle.step.specs.declared.registers.State.{State}
-use Rattle.step.specs.declared.steps.TwoOp.the-variants as TwoOp
-use Rattle.step.specs.declared.steps.OneOp.the-variants as OneOp
+use Rattle.step.specs.declared.forms.TwoOp.the-variants as TwoOp
+use Rattle.step.specs.declared.forms.OneOp.the-variants as OneOp
 use Rattle.step.proofs.Promises.{Left, Alu, Promises, register, put, withX, fresh}
 use Rattle.step.proofs.Leading.{executed}
 use Rattle.recipes.specs.declared.types.Verb.{Verb}

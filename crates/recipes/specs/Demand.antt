@@ -8,7 +8,7 @@ use mathlib.Core.List.{List, _++_}
 use lib.ListN.{length, getD, take}
 use Rattle.alu.specs.declared.types.Flags.{Flags}
 use Rattle.step.specs.declared.registers.State.{State}
-use Rattle.step.specs.declared.steps.Step.{Step}
+use Rattle.step.specs.declared.forms.Step.{Step}
 use Rattle.step.specs.declared.runs.End.the-variants.{Finished}
 use Rattle.step.specs.declared.runs.Ran.{Ran}
 use Rattle.step.specs.Perform.{performOf}

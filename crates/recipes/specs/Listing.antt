@@ -8,14 +8,14 @@ use Rattle.alu.specs.declared.types.Size.the-variants.{Long}
 use Rattle.alu.specs.declared.shift_rotate.ShiftOp.{ShiftOp}
 use Rattle.alu.specs.declared.shift_rotate.ShiftOp.the-variants.{Asr, Lsl, Lsr, Roxl, Roxr}
 use Rattle.step.specs.declared.registers.State.{State}
-use Rattle.step.specs.declared.steps.TwoOp.{TwoOp}
-use Rattle.step.specs.declared.steps.TwoOp.the-variants as TwoOp
-use Rattle.step.specs.declared.steps.OneOp.{OneOp}
-use Rattle.step.specs.declared.steps.OneOp.the-variants as OneOp
-use Rattle.step.specs.declared.steps.Count.the-variants.{Small}
-use Rattle.step.specs.declared.steps.Form.{Form}
-use Rattle.step.specs.declared.steps.Form.the-variants.{Two, One, Shift}
-use Rattle.step.specs.declared.steps.Step.{Step}
+use Rattle.step.specs.declared.forms.TwoOp.{TwoOp}
+use Rattle.step.specs.declared.forms.TwoOp.the-variants as TwoOp
+use Rattle.step.specs.declared.forms.OneOp.{OneOp}
+use Rattle.step.specs.declared.forms.OneOp.the-variants as OneOp
+use Rattle.step.specs.declared.forms.Count.the-variants.{Small}
+use Rattle.step.specs.declared.forms.Form.{Form}
+use Rattle.step.specs.declared.forms.Form.the-variants.{Two, One, Shift}
+use Rattle.step.specs.declared.forms.Step.{Step}
 use Rattle.step.specs.Perform.{performOf}
 use Rattle.step.specs.Run.{arraySlots}
 use Rattle.recipes.specs.declared.types.Verb.{Verb}

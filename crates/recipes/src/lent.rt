@@ -8,7 +8,7 @@ use super::types::Listing;
 use super::types::Recipe;
 use super::types::Refusal;
 use super::types::Translated;
-use step::steps::Step;
+use step::forms::Step;
 
 // Translates a recipe into a listing that is lent. It is written only when the whole recipe is accepted and there is
 // room for all of its steps; the slots past them stay.

@@ -29,16 +29,16 @@ use alu::bit_manip::BitOp;
 use alu::shift_rotate::ShiftOp;
 use alu::types::Flags;
 use alu::types::Size;
+use step::forms::AddressOp;
+use step::forms::Count;
+use step::forms::Form;
+use step::forms::OneOp;
+use step::forms::QuickOp;
+use step::forms::Register;
+use step::forms::Step;
+use step::forms::TwoOp;
 use step::registers::State;
 use step::runs::SLOTS;
-use step::steps::AddressOp;
-use step::steps::Count;
-use step::steps::Form;
-use step::steps::OneOp;
-use step::steps::QuickOp;
-use step::steps::Register;
-use step::steps::Step;
-use step::steps::TwoOp;
 use step::steps::perform;
 
 // An operation's name, filled up with blanks to four bytes. So are the names below.

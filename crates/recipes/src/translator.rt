@@ -21,13 +21,13 @@ use super::types::is_width;
 use super::types::target;
 use alu::shift_rotate::ShiftOp;
 use alu::types::Size;
+use step::forms::Count;
+use step::forms::Form;
+use step::forms::OneOp;
+use step::forms::Step;
+use step::forms::TwoOp;
 use step::registers::D;
 use step::runs::SLOTS;
-use step::steps::Count;
-use step::steps::Form;
-use step::steps::OneOp;
-use step::steps::Step;
-use step::steps::TwoOp;
 
 fn one(op: OneOp, q: u8) -> Step
     ensures { λ r. ⌜ r ≡ one op q ⌝ }

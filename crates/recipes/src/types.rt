@@ -3,8 +3,8 @@
 ghost use mathlib.Core.Path.{_≡_};
 ghost use Rattle.recipes.specs.Recipe.{numberOf, isNothing, takesTwo, isCopy, target, isWidth};
 use alu::types::Flags;
+use step::forms::Step;
 use step::runs::SLOTS;
-use step::steps::Step;
 
 // The most lines of a recipe.
 pub const LINES_MAX: usize = 32;

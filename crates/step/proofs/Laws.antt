@@ -11,7 +11,7 @@ use native.Mathlib.Numerals.{add-one}
 use native.Mathlib.Omega.{arith}
 use lib.ListN.{length, getD}
 use Rattle.step.specs.declared.registers.State.{State}
-use Rattle.step.specs.declared.steps.Step.{Step}
+use Rattle.step.specs.declared.forms.Step.{Step}
 use Rattle.step.specs.declared.steps.Fault.the-variants.{StartPastEnd}
 use Rattle.step.specs.declared.steps.Outcome.{Outcome}
 use Rattle.step.specs.declared.steps.Outcome.the-variants.{Done, Trapped, Refused}

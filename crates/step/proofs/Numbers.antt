@@ -18,7 +18,7 @@ use native.Mathlib.Decide.{decLt}
 use lib.Dec.{leb}
 use lib.ListN.{length, getD}
 use Rattle.step.specs.declared.registers.State.{State}
-use Rattle.step.specs.declared.steps.Step.{Step}
+use Rattle.step.specs.declared.forms.Step.{Step}
 use Rattle.step.specs.declared.steps.Fault.{Fault}
 use Rattle.step.specs.declared.steps.Fault.the-variants.{BadSmall, NoSuchSize, NoSuchRegister, StartPastEnd}
 use Rattle.step.specs.declared.steps.Trap.{Trap}

@@ -26,14 +26,14 @@ use Rattle.alu.proofs.Laws.{sum-lt, difference-lt, add-exact, sub-exact, neg-fl
 use Rattle.alu.proofs.Turns.{top-low, left-exact, right-exact}
 use Rattle.alu.proofs.Bounds.{low-lt, digit-le}
 use Rattle.step.specs.declared.registers.State.{State}
-use Rattle.step.specs.declared.steps.TwoOp.{TwoOp}
-use Rattle.step.specs.declared.steps.TwoOp.the-variants.{Add, Sub, Cmp, Addx, Subx}
-use Rattle.step.specs.declared.steps.OneOp.{OneOp}
-use Rattle.step.specs.declared.steps.OneOp.the-variants.{Clr, Neg, Negx, Not, Ext}
-use Rattle.step.specs.declared.steps.Count.the-variants as Count
-use Rattle.step.specs.declared.steps.Form.{Form}
-use Rattle.step.specs.declared.steps.Form.the-variants.{Two, Address, Quick, One, Shift, Bit, Chk}
-use Rattle.step.specs.declared.steps.Step.{Step}
+use Rattle.step.specs.declared.forms.TwoOp.{TwoOp}
+use Rattle.step.specs.declared.forms.TwoOp.the-variants.{Add, Sub, Cmp, Addx, Subx}
+use Rattle.step.specs.declared.forms.OneOp.{OneOp}
+use Rattle.step.specs.declared.forms.OneOp.the-variants.{Clr, Neg, Negx, Not, Ext}
+use Rattle.step.specs.declared.forms.Count.the-variants as Count
+use Rattle.step.specs.declared.forms.Form.{Form}
+use Rattle.step.specs.declared.forms.Form.the-variants.{Two, Address, Quick, One, Shift, Bit, Chk}
+use Rattle.step.specs.declared.forms.Step.{Step}
 use Rattle.step.specs.declared.steps.Outcome.{Outcome}
 use Rattle.step.specs.declared.steps.Outcome.the-variants.{Done}
 use Rattle.step.specs.declared.steps.Performed.{Performed}

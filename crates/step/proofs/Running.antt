@@ -13,9 +13,9 @@ use borrow.Author.Tests.{ltb-true, ltb-false, leb-true, leb-false, lt-ltb}
 use Rattle.alu.specs.declared.types.Size.the-variants.{Byte}
 use Rattle.alu.specs.declared.types.Flags.{Flags}
 use Rattle.step.specs.declared.registers.State.{State}
-use Rattle.step.specs.declared.steps.TwoOp.the-variants.{Add}
-use Rattle.step.specs.declared.steps.Form.the-variants.{Two}
-use Rattle.step.specs.declared.steps.Step.{Step}
+use Rattle.step.specs.declared.forms.TwoOp.the-variants.{Add}
+use Rattle.step.specs.declared.forms.Form.the-variants.{Two}
+use Rattle.step.specs.declared.forms.Step.{Step}
 use Rattle.step.specs.declared.steps.Outcome.{Outcome}
 use Rattle.step.specs.declared.steps.Outcome.the-variants.{Done, Trapped, Refused}
 use Rattle.step.specs.declared.steps.Performed.{Performed}

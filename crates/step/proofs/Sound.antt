@@ -25,19 +25,19 @@ use Rattle.alu.specs.Arith.{chkOf}
 use Rattle.alu.specs.Shifts.{shiftOf}
 use Rattle.alu.specs.Bitops.{bitopOf}
 use Rattle.step.specs.declared.registers.State.{State}
-use Rattle.step.specs.declared.steps.TwoOp.{TwoOp}
-use Rattle.step.specs.declared.steps.TwoOp.the-variants.{Add, Sub, Cmp, Addx, Subx}
-use Rattle.step.specs.declared.steps.AddressOp.{AddressOp}
-use Rattle.step.specs.declared.steps.AddressOp.the-variants.{Adda, Suba, Cmpa}
-use Rattle.step.specs.declared.steps.QuickOp.{QuickOp}
-use Rattle.step.specs.declared.steps.QuickOp.the-variants.{Addq, Subq}
-use Rattle.step.specs.declared.steps.OneOp.{OneOp}
-use Rattle.step.specs.declared.steps.OneOp.the-variants.{Clr, Neg, Negx, Not, Ext}
-use Rattle.step.specs.declared.steps.Register.the-variants as Register
-use Rattle.step.specs.declared.steps.Count.{Count}
-use Rattle.step.specs.declared.steps.Count.the-variants as Count
-use Rattle.step.specs.declared.steps.Form.{Form}
-use Rattle.step.specs.declared.steps.Form.the-variants.{Two, Address, Quick, One, Shift, Bit, Chk}
+use Rattle.step.specs.declared.forms.TwoOp.{TwoOp}
+use Rattle.step.specs.declared.forms.TwoOp.the-variants.{Add, Sub, Cmp, Addx, Subx}
+use Rattle.step.specs.declared.forms.AddressOp.{AddressOp}
+use Rattle.step.specs.declared.forms.AddressOp.the-variants.{Adda, Suba, Cmpa}
+use Rattle.step.specs.declared.forms.QuickOp.{QuickOp}
+use Rattle.step.specs.declared.forms.QuickOp.the-variants.{Addq, Subq}
+use Rattle.step.specs.declared.forms.OneOp.{OneOp}
+use Rattle.step.specs.declared.forms.OneOp.the-variants.{Clr, Neg, Negx, Not, Ext}
+use Rattle.step.specs.declared.forms.Register.the-variants as Register
+use Rattle.step.specs.declared.forms.Count.{Count}
+use Rattle.step.specs.declared.forms.Count.the-variants as Count
+use Rattle.step.specs.declared.forms.Form.{Form}
+use Rattle.step.specs.declared.forms.Form.the-variants.{Two, Address, Quick, One, Shift, Bit, Chk}
 use Rattle.step.specs.declared.steps.Ruling.{Ruling}
 use Rattle.step.specs.declared.steps.Ruling.the-variants.{Sound, Faulty}
 use Rattle.step.specs.Registers.{dataOf, addressOf, mergedOf}

@@ -1,4 +1,5 @@
 -- In the order to be read. The last has terms of private contracts alone.
+pub mod Operations
 pub mod Registers
 pub mod Perform
 pub mod Run

@@ -5,7 +5,7 @@ use mathlib.Core.Path.{_≡_}
 use mathlib.Core.Bool.{Bool, true, false}
 use mathlib.Core.List.{List, [], _∷_}
 use Rattle.step.specs.declared.registers.State.{State}
-use Rattle.step.specs.declared.steps.Step.{Step}
+use Rattle.step.specs.declared.forms.Step.{Step}
 use Rattle.step.specs.declared.steps.Performed.{Performed}
 use Rattle.step.specs.declared.runs.End.{End}
 use Rattle.step.specs.declared.runs.End.the-variants as End

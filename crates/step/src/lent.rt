@@ -4,13 +4,13 @@ ghost use lib.ListN.{getD, set};
 ghost use Rattle.step.specs.Perform.{performOf};
 ghost use Rattle.step.specs.Run.{runOf};
 ghost use Rattle.step.specs.Lent.{performed};
+use super::forms::Step;
 use super::registers::State;
 use super::runs::Ran;
 use super::runs::advance;
 use super::runs::begin;
 use super::runs::ended;
 use super::steps::Outcome;
-use super::steps::Step;
 use super::steps::perform;
 
 // What one step says beside the state that it leaves.

@@ -3,6 +3,7 @@
 // Every public function takes every input: none has a `requires`. Each has one `ensures`, an
 // equation that gives its whole answer and all that is lent to it, by a definition of specs/ (`fetch`
 // and `store` by the library's `getD` and `set`). Nothing is assumed.
+pub mod forms;
 pub mod lent;
 pub mod registers;
 pub mod runs;

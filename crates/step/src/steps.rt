@@ -6,12 +6,20 @@ ghost use mathlib.Core.List.{List};
 ghost use Prim.Native.Nat.{ℕ};
 ghost use Rattle.alu.specs.Shifts.{shiftOf};
 ghost use Rattle.alu.specs.Bitops.{bitopOf};
-ghost use Rattle.step.specs.declared.steps.Form.the-variants as Form;
-ghost use Rattle.step.specs.declared.steps.Register.the-variants as Register;
+ghost use Rattle.step.specs.declared.forms.Form.the-variants as Form;
+ghost use Rattle.step.specs.declared.forms.Register.the-variants as Register;
 ghost use Rattle.step.specs.Perform.{numberOf, classOf, refusalOf, registerThere, countThere, within, countWithin};
 ghost use Rattle.step.specs.Perform.{notByte, isWord, isLong, oneSize, twoOf, onAddressOf, quickOf, quickAddressOf, oneOf};
 ghost use Rattle.step.specs.Perform.{registerValue, countValue, outcomeOf, performForm, performOf};
 ghost use Rattle.step.specs.Course.{held, leaving, saidOf, refusedOf};
+use super::forms::AddressOp;
+use super::forms::Count;
+use super::forms::Form;
+use super::forms::OneOp;
+use super::forms::QuickOp;
+use super::forms::Register;
+use super::forms::Step;
+use super::forms::TwoOp;
 use super::registers::A;
 use super::registers::D;
 use super::registers::State;
@@ -54,63 +62,6 @@ use alu::types::Answer;
 use alu::types::Check;
 use alu::types::Flags;
 use alu::types::Size;
-
-// The operations of document 01's forms table, row by row: on two data registers, on an address register, with a small
-// number, on one data register.
-pub enum TwoOp {
-    Add,
-    Sub,
-    Cmp,
-    Addx,
-    Subx,
-}
-
-pub enum AddressOp {
-    Adda,
-    Suba,
-    Cmpa,
-}
-
-pub enum QuickOp {
-    Addq,
-    Subq,
-}
-
-pub enum OneOp {
-    Clr,
-    Neg,
-    Negx,
-    Not,
-    Ext,
-}
-
-// A register of either kind.
-pub enum Register {
-    Data(D),
-    Address(A),
-}
-
-// A shift's count or a bit's number: a small number, or what a data register holds.
-pub enum Count {
-    Small(u8),
-    Data(D),
-}
-
-// The forms of document 01, source before destination. No other operand kind can be written.
-pub enum Form {
-    Two(TwoOp, D, D),
-    Address(AddressOp, Register, A),
-    Quick(QuickOp, u8, Register),
-    One(OneOp, D),
-    Shift(ShiftOp, Count, D),
-    Bit(BitOp, Count, D),
-    Chk(D, D),
-}
-
-pub struct Step {
-    pub size: Size,
-    pub form: Form,
-}
 
 // Why a step, or a run, is refused: document 01's numbers 1, 2, 3 and 10.
 pub enum Fault {

@@ -37,14 +37,14 @@ use denote.Triple.Table.{entered, cited}
 use denote.Triple.Walked.{says, Stays, stay-ref, stay-none, walkOf, AllGo, goes-none, goes-ref, Walks, ends-at, walked, walk-meets}
 use denote.Exit.{yes}
 use Rattle.step.specs.declared.registers.State.{State}
-use Rattle.step.specs.declared.steps.Step.{Step}
+use Rattle.step.specs.declared.forms.Step.{Step}
 use Rattle.step.specs.declared.steps.Performed.{Performed}
 use Rattle.step.specs.declared.lent.Told.{Told}
 use Rattle.step.specs.Perform.{performOf}
 use Rattle.step.proofs.registers.State as S
 use Rattle.step.proofs.registers.State.Laws as S′
-use Rattle.step.proofs.steps.Step as T
-use Rattle.step.proofs.steps.Step.Laws as T′
+use Rattle.step.proofs.forms.Step as T
+use Rattle.step.proofs.forms.Step.Laws as T′
 use Rattle.step.proofs.steps.Performed as P
 use Rattle.step.proofs.steps.Performed.Laws as P′
 use Rattle.step.proofs.lent.Told as R

@@ -55,7 +55,7 @@ use Rattle.alu.specs.declared.types.Flags.{Flags}
 use Rattle.alu.proofs.types.Flags as F
 use Rattle.alu.proofs.types.Flags.Laws as F′
 use Rattle.step.specs.declared.registers.State.{State}
-use Rattle.step.specs.declared.steps.Step.{Step}
+use Rattle.step.specs.declared.forms.Step.{Step}
 use Rattle.step.specs.declared.runs.Ran.{Ran}
 use Rattle.step.specs.declared.runs.Course.{Course}
 use Rattle.step.specs.Perform.{performOf}
@@ -64,8 +64,8 @@ use Rattle.step.specs.Course.{held, beginOf, Advanced, ranOf, Ready}
 use Rattle.step.proofs.Running.{answerOf, begin-answer, turn-answer, stopped-answer, leftOf, turn-less, nop}
 use Rattle.step.proofs.registers.State as S
 use Rattle.step.proofs.registers.State.Laws as S′
-use Rattle.step.proofs.steps.Step as T
-use Rattle.step.proofs.steps.Step.Laws as T′
+use Rattle.step.proofs.forms.Step as T
+use Rattle.step.proofs.forms.Step.Laws as T′
 use Rattle.step.proofs.runs.Ran as R
 use Rattle.step.proofs.runs.Ran.Laws as R′
 use Rattle.step.proofs.runs.Course as O
