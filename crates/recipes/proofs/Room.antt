@@ -4,26 +4,15 @@
 use Prim.Native.Nat.{ℕ, zero, suc, _+_, _*_, _/_, _%_, _≤_, min, _-_}
 use mathlib.Core.Bool.{Bool, true, false, cond}
 use mathlib.Core.List.{List, [], _∷_, _++_}
-use mathlib.Core.Path.{_≡_, sym, ap, _∙_}
+use mathlib.Core.Path.{_≡_, refl, sym, ap, _∙_}
 use native.Mathlib.Omega.{arith}
-use lib.Dec.{ltb}
+use borrow.Author.Tests.{leb-true}
+use lib.Dec.{ltb, leb}
 use lib.ListN.{length, take, drop, length-append, length-take, length-drop}
 use lib.Seq.{take-at, take-all, length-take-le}
 use Rattle.io.specs.Counts.{Counts}
 use Rattle.alu.specs.declared.types.Size.{Size}
 use Rattle.alu.specs.declared.types.Size.the-variants.{Byte, Word, Long}
-use Rattle.alu.specs.declared.shift_rotate.ShiftOp.{ShiftOp}
-use Rattle.alu.specs.declared.shift_rotate.ShiftOp.the-variants.{Asl, Asr, Lsl, Lsr, Rol, Ror, Roxl, Roxr}
-use Rattle.alu.specs.declared.bit_manip.BitOp.{BitOp}
-use Rattle.alu.specs.declared.bit_manip.BitOp.the-variants.{Btst, Bset, Bclr, Bchg}
-use Rattle.step.specs.declared.forms.TwoOp.{TwoOp}
-use Rattle.step.specs.declared.forms.TwoOp.the-variants.{Add, Sub, Cmp, Addx, Subx}
-use Rattle.step.specs.declared.forms.AddressOp.{AddressOp}
-use Rattle.step.specs.declared.forms.AddressOp.the-variants.{Adda, Suba, Cmpa}
-use Rattle.step.specs.declared.forms.QuickOp.{QuickOp}
-use Rattle.step.specs.declared.forms.QuickOp.the-variants.{Addq, Subq}
-use Rattle.step.specs.declared.forms.OneOp.{OneOp}
-use Rattle.step.specs.declared.forms.OneOp.the-variants.{Clr, Neg, Negx, Not, Ext}
 use Rattle.step.specs.declared.forms.Register.{Register}
 use Rattle.step.specs.declared.forms.Register.the-variants as Register
 use Rattle.step.specs.declared.forms.Count.{Count}
@@ -31,13 +20,15 @@ use Rattle.step.specs.declared.forms.Count.the-variants as Count
 use Rattle.step.specs.declared.forms.Form.{Form}
 use Rattle.step.specs.declared.forms.Form.the-variants.{Two, Address, Quick, One, Shift, Bit, Chk}
 use Rattle.step.specs.declared.forms.Step.{Step}
+use Rattle.step.specs.Operations.{Row, operationOf}
+use Rattle.step.proofs.Operations.{each-row}
 use Rattle.recipes.specs.declared.types.Recipe.{Recipe}
 use Rattle.recipes.specs.declared.types.Refusal.{Refusal}
-use Rattle.recipes.specs.Text.{Written, written, writing, decimalIn, decimalOf}
+use Rattle.recipes.specs.Text.{Written, written, writing, ascii, decimalIn, decimalOf}
 use Rattle.recipes.specs.Recipe.{numberOf, isNothing}
 use Rattle.recipes.specs.Reader.{readOf}
 use Rattle.recipes.specs.Listing.{translateOf, blanks, clocksOf}
-use Rattle.recipes.specs.Printer.{printMax, twoName, addressName, quickName, oneName, shiftName, bitName, operationText, sizeText, registerText, countText, sourceText, destinationText, stepText, stepsText, listingText, refusalText, printedOf, answerOf}
+use Rattle.recipes.specs.Printer.{printMax, operationText, sizeText, registerText, countText, sourceText, destinationText, stepText, stepsText, listingText, refusalText, printedOf, answerOf}
 use Rattle.recipes.proofs.Settling.{blanks-count}
 
 -- ---- parts of a line
@@ -51,53 +42,13 @@ decimal-short (suc f) n = go (ltb n 10) (decimal-short f (n / 10))
     go true h = omega arith
     go false h = rw length-append (omega arith)
 
-two-short : (op : TwoOp) → length (twoName op) ≤ 4
-two-short Add = omega arith
-two-short Sub = omega arith
-two-short Cmp = omega arith
-two-short Addx = omega arith
-two-short Subx = omega arith
-
-address-short : (op : AddressOp) → length (addressName op) ≤ 4
-address-short Adda = omega arith
-address-short Suba = omega arith
-address-short Cmpa = omega arith
-
-quick-short : (op : QuickOp) → length (quickName op) ≤ 4
-quick-short Addq = omega arith
-quick-short Subq = omega arith
-
-one-short : (op : OneOp) → length (oneName op) ≤ 4
-one-short Clr = omega arith
-one-short Neg = omega arith
-one-short Negx = omega arith
-one-short Not = omega arith
-one-short Ext = omega arith
-
-shift-short : (op : ShiftOp) → length (shiftName op) ≤ 4
-shift-short Asl = omega arith
-shift-short Asr = omega arith
-shift-short Lsl = omega arith
-shift-short Lsr = omega arith
-shift-short Rol = omega arith
-shift-short Ror = omega arith
-shift-short Roxl = omega arith
-shift-short Roxr = omega arith
-
-bit-short : (op : BitOp) → length (bitName op) ≤ 4
-bit-short Btst = omega arith
-bit-short Bset = omega arith
-bit-short Bclr = omega arith
-bit-short Bchg = omega arith
+-- each name of the table has at most four letters
+name-short : ℕ → Row → Bool
+name-short k r = leb (length (ascii (r .name))) 4
 
 operation-short : (f : Form) → length (operationText f) ≤ 4
-operation-short (Two op p q) = two-short op
-operation-short (Address op p q) = address-short op
-operation-short (Quick op k q) = quick-short op
-operation-short (One op q) = one-short op
-operation-short (Shift op k q) = shift-short op
-operation-short (Bit op k q) = bit-short op
-operation-short (Chk p q) = omega arith
+unfolding name-short
+operation-short f = leb-true (length (operationText f)) 4 (each-row name-short refl (operationOf f))
 
 size-short : (s : Size) → length (sizeText s) ≤ 1
 size-short Byte = omega arith

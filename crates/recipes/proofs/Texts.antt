@@ -20,7 +20,7 @@ both-true true false e = (refl, e)
 both-true false true e = (e, refl)
 both-true false false e = (e, e)
 
-same-true : (xs ys : List ℕ) → sameBytes xs ys ≡ true → xs ≡ ys
+pub same-true : (xs ys : List ℕ) → sameBytes xs ys ≡ true → xs ≡ ys
 unfolding sameBytes
 same-true [] [] e = refl
 same-true [] (y ∷ ys) e = absurd (false≢true e)

@@ -5,18 +5,6 @@ use mathlib.Core.List.{List, [], _∷_, _++_}
 use lib.ListN.{length, take}
 use Rattle.alu.specs.declared.types.Size.{Size}
 use Rattle.alu.specs.declared.types.Size.the-variants.{Byte, Word, Long}
-use Rattle.alu.specs.declared.shift_rotate.ShiftOp.{ShiftOp}
-use Rattle.alu.specs.declared.shift_rotate.ShiftOp.the-variants.{Asl, Asr, Lsl, Lsr, Rol, Ror, Roxl, Roxr}
-use Rattle.alu.specs.declared.bit_manip.BitOp.{BitOp}
-use Rattle.alu.specs.declared.bit_manip.BitOp.the-variants.{Btst, Bset, Bclr, Bchg}
-use Rattle.step.specs.declared.forms.TwoOp.{TwoOp}
-use Rattle.step.specs.declared.forms.TwoOp.the-variants.{Add, Sub, Cmp, Addx, Subx}
-use Rattle.step.specs.declared.forms.AddressOp.{AddressOp}
-use Rattle.step.specs.declared.forms.AddressOp.the-variants.{Adda, Suba, Cmpa}
-use Rattle.step.specs.declared.forms.QuickOp.{QuickOp}
-use Rattle.step.specs.declared.forms.QuickOp.the-variants.{Addq, Subq}
-use Rattle.step.specs.declared.forms.OneOp.{OneOp}
-use Rattle.step.specs.declared.forms.OneOp.the-variants.{Clr, Neg, Negx, Not, Ext}
 use Rattle.step.specs.declared.forms.Register.{Register}
 use Rattle.step.specs.declared.forms.Register.the-variants as Register
 use Rattle.step.specs.declared.forms.Count.{Count}
@@ -24,6 +12,7 @@ use Rattle.step.specs.declared.forms.Count.the-variants as Count
 use Rattle.step.specs.declared.forms.Form.{Form}
 use Rattle.step.specs.declared.forms.Form.the-variants.{Two, Address, Quick, One, Shift, Bit, Chk}
 use Rattle.step.specs.declared.forms.Step.{Step}
+use Rattle.step.specs.Operations.{operationName, operationOf}
 use Rattle.recipes.specs.declared.types.Recipe.{Recipe}
 use Rattle.recipes.specs.declared.types.Refusal.{Refusal}
 use Rattle.recipes.specs.declared.types.Listing.{Listing}
@@ -43,55 +32,10 @@ newline = 10 ∷ []
 abbrev pub fieldOf : ℕ → List ℕ
 fieldOf n = 9 ∷ decimalOf n
 
--- ---- operations
-
-abbrev pub twoName : TwoOp → List ℕ
-twoName Add = ascii "ADD"
-twoName Sub = ascii "SUB"
-twoName Cmp = ascii "CMP"
-twoName Addx = ascii "ADDX"
-twoName Subx = ascii "SUBX"
-
-abbrev pub addressName : AddressOp → List ℕ
-addressName Adda = ascii "ADDA"
-addressName Suba = ascii "SUBA"
-addressName Cmpa = ascii "CMPA"
-
-abbrev pub quickName : QuickOp → List ℕ
-quickName Addq = ascii "ADDQ"
-quickName Subq = ascii "SUBQ"
-
-abbrev pub oneName : OneOp → List ℕ
-oneName Clr = ascii "CLR"
-oneName Neg = ascii "NEG"
-oneName Negx = ascii "NEGX"
-oneName Not = ascii "NOT"
-oneName Ext = ascii "EXT"
-
-abbrev pub shiftName : ShiftOp → List ℕ
-shiftName Asl = ascii "ASL"
-shiftName Asr = ascii "ASR"
-shiftName Lsl = ascii "LSL"
-shiftName Lsr = ascii "LSR"
-shiftName Rol = ascii "ROL"
-shiftName Ror = ascii "ROR"
-shiftName Roxl = ascii "ROXL"
-shiftName Roxr = ascii "ROXR"
-
-abbrev pub bitName : BitOp → List ℕ
-bitName Btst = ascii "BTST"
-bitName Bset = ascii "BSET"
-bitName Bclr = ascii "BCLR"
-bitName Bchg = ascii "BCHG"
+-- ---- operations and sizes
 
 abbrev pub operationText : Form → List ℕ
-operationText (Two op p q) = twoName op
-operationText (Address op p q) = addressName op
-operationText (Quick op k q) = quickName op
-operationText (One op q) = oneName op
-operationText (Shift op k q) = shiftName op
-operationText (Bit op k q) = bitName op
-operationText (Chk p q) = ascii "CHK"
+operationText form = ascii (operationName (operationOf form))
 
 abbrev pub sizeText : Size → List ℕ
 sizeText Byte = ascii "B"

@@ -9,7 +9,7 @@ ghost use lib.ListN.{take};
 ghost use Rattle.recipes.specs.Text.{before, written, writing};
 ghost use Rattle.recipes.specs.Making.{Wrote, operandText};
 ghost use Rattle.recipes.specs.Listing.{atRest, figureOf, clocksOf};
-ghost use Rattle.recipes.specs.Printer.{twoName, addressName, quickName, oneName, shiftName, bitName, operationText, sizeText, registerText, countText, sourceText, destinationText, stepText, stepsText, fieldOf, newline};
+ghost use Rattle.recipes.specs.Printer.{operationText, sizeText, registerText, countText, sourceText, destinationText, stepText, stepsText, fieldOf, newline};
 ghost use Rattle.recipes.specs.Printer.{listingText, refusalText, printedOf, answerOf};
 use super::reader::read;
 use super::text::BLANK;
@@ -25,104 +25,27 @@ use super::types::Recipe;
 use super::types::Refusal;
 use super::types::is_nothing;
 use super::types::number;
-use alu::bit_manip::BitOp;
-use alu::shift_rotate::ShiftOp;
 use alu::types::Flags;
 use alu::types::Size;
-use step::forms::AddressOp;
 use step::forms::Count;
 use step::forms::Form;
-use step::forms::OneOp;
-use step::forms::QuickOp;
 use step::forms::Register;
 use step::forms::Step;
-use step::forms::TwoOp;
+use step::forms::operation_of;
 use step::registers::State;
 use step::runs::SLOTS;
 use step::steps::perform;
 
-// An operation's name, filled up with blanks to four bytes. So are the names below.
-fn two_name(op: TwoOp) -> [u8; 4]
-    ensures { λ r. ⌜ before 32 r ≡ twoName op ⌝ }
-{
-    match op {
-        TwoOp::Add => [b'A', b'D', b'D', b' '],
-        TwoOp::Sub => [b'S', b'U', b'B', b' '],
-        TwoOp::Cmp => [b'C', b'M', b'P', b' '],
-        TwoOp::Addx => [b'A', b'D', b'D', b'X'],
-        TwoOp::Subx => [b'S', b'U', b'B', b'X'],
-    }
-}
-
-fn address_name(op: AddressOp) -> [u8; 4]
-    ensures { λ r. ⌜ before 32 r ≡ addressName op ⌝ }
-{
-    match op {
-        AddressOp::Adda => [b'A', b'D', b'D', b'A'],
-        AddressOp::Suba => [b'S', b'U', b'B', b'A'],
-        AddressOp::Cmpa => [b'C', b'M', b'P', b'A'],
-    }
-}
-
-fn quick_name(op: QuickOp) -> [u8; 4]
-    ensures { λ r. ⌜ before 32 r ≡ quickName op ⌝ }
-{
-    match op {
-        QuickOp::Addq => [b'A', b'D', b'D', b'Q'],
-        QuickOp::Subq => [b'S', b'U', b'B', b'Q'],
-    }
-}
-
-fn one_name(op: OneOp) -> [u8; 4]
-    ensures { λ r. ⌜ before 32 r ≡ oneName op ⌝ }
-{
-    match op {
-        OneOp::Clr => [b'C', b'L', b'R', b' '],
-        OneOp::Neg => [b'N', b'E', b'G', b' '],
-        OneOp::Negx => [b'N', b'E', b'G', b'X'],
-        OneOp::Not => [b'N', b'O', b'T', b' '],
-        OneOp::Ext => [b'E', b'X', b'T', b' '],
-    }
-}
-
-fn shift_name(op: ShiftOp) -> [u8; 4]
-    ensures { λ r. ⌜ before 32 r ≡ shiftName op ⌝ }
-{
-    match op {
-        ShiftOp::Asl => [b'A', b'S', b'L', b' '],
-        ShiftOp::Asr => [b'A', b'S', b'R', b' '],
-        ShiftOp::Lsl => [b'L', b'S', b'L', b' '],
-        ShiftOp::Lsr => [b'L', b'S', b'R', b' '],
-        ShiftOp::Rol => [b'R', b'O', b'L', b' '],
-        ShiftOp::Ror => [b'R', b'O', b'R', b' '],
-        ShiftOp::Roxl => [b'R', b'O', b'X', b'L'],
-        ShiftOp::Roxr => [b'R', b'O', b'X', b'R'],
-    }
-}
-
-fn bit_name(op: BitOp) -> [u8; 4]
-    ensures { λ r. ⌜ before 32 r ≡ bitName op ⌝ }
-{
-    match op {
-        BitOp::Btst => [b'B', b'T', b'S', b'T'],
-        BitOp::Bset => [b'B', b'S', b'E', b'T'],
-        BitOp::Bclr => [b'B', b'C', b'L', b'R'],
-        BitOp::Bchg => [b'B', b'C', b'H', b'G'],
-    }
-}
+// The names of the operations by number, each filled up with blanks to four bytes. So are the size letters.
+const NAMES: [u8; 120] = *b"\
+    ADD SUB CMP ADDXSUBXADDASUBACMPAADDQSUBQADDQSUBQCLR NEG NEGX\
+    NOT EXT ASL ASR LSL LSR ROL ROR ROXLROXRBTSTBSETBCLRBCHGCHK ";
 
 fn operation_name(form: Form) -> [u8; 4]
     ensures { λ r. ⌜ before 32 r ≡ operationText form ⌝ }
 {
-    match form {
-        Form::Two(op, _, _) => two_name(op),
-        Form::Address(op, _, _) => address_name(op),
-        Form::Quick(op, _, _) => quick_name(op),
-        Form::One(op, _) => one_name(op),
-        Form::Shift(op, _, _) => shift_name(op),
-        Form::Bit(op, _, _) => bit_name(op),
-        Form::Chk(_, _) => [b'C', b'H', b'K', b' '],
-    }
+    let at = step::forms::number(operation_of(form)) as usize * 4;
+    [NAMES[at], NAMES[at + 1], NAMES[at + 2], NAMES[at + 3]]
 }
 
 fn size_name(size: Size) -> [u8; 4]

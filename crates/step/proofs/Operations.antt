@@ -3,12 +3,12 @@
 --     each-row   a test that passes at all rows and their places passes at each operation's
 --     missed     a number that is none of the places names none
 use Prim.Native.Nat.{ℕ, zero, suc, _+_, _<_, _≤_}
-use mathlib.Core.Path.{_≡_, refl, _∙_, subst, sym}
-use mathlib.Core.Bool.{Bool, true, false, _&&_}
+use mathlib.Core.Path.{_≡_, refl, _∙_, sym}
+use mathlib.Core.Bool.{Bool, true, false, _&&_, false≢true}
 use mathlib.Core.List.{List, [], _∷_}
 use native.Mathlib.Nat.{add-zero, zero-add, add-suc, suc-add, le-of-suc-le-suc, not-suc-le-zero}
 use native.Mathlib.Omega.{arith}
-use lib.Dec.{T, lit<}
+use lib.Dec.{lit<}
 use lib.ListN.{length, getD, List·getD-eq-default}
 use Rattle.alu.specs.declared.shift_rotate.ShiftOp.the-variants.{Asl, Asr, Lsl, Lsr, Rol, Ror, Roxl, Roxr}
 use Rattle.alu.specs.declared.bit_manip.BitOp.the-variants.{Btst, Bset, Bclr, Bchg}
@@ -58,30 +58,23 @@ stands Chk = (lit< tt, refl)
 
 -- ---- tests over the rows
 
-left : (a b : Bool) → T (a && b) → T a
-left true b t = tt
-left false b t = t
-
-right : (a b : Bool) → T (a && b) → T b
-right true b t = t
-right false b t = absurd t
+both : (a b : Bool) → a && b ≡ true → (a ≡ true) × (b ≡ true)
+both true b e = (refl, e)
+both false b e = absurd (false≢true e)
 
 -- the test f passes at each row of the list and its place, counted from i
 abbrev pub every : (ℕ → Row → Bool) → ℕ → List Row → Bool
 every f i [] = true
 every f i (x ∷ xs) = f i x && every f (suc i) xs
 
-from : (f : ℕ → Row → Bool) (xs : List Row) (i : ℕ) (d : Row) → T (every f i xs) → (k : ℕ) → k < length xs → T (f (i + k) (getD xs k d))
+from : (f : ℕ → Row → Bool) (xs : List Row) (i : ℕ) (d : Row) → every f i xs ≡ true → (k : ℕ) → k < length xs → f (i + k) (getD xs k d) ≡ true
 from f [] i d t k h = absurd (not-suc-le-zero h)
-from f (x ∷ xs) i d t zero h = subst (λ (m : ℕ). T (f m x)) (sym (add-zero i)) (left (f i x) (every f (suc i) xs) t)
+from f (x ∷ xs) i d t zero h = rw (add-zero i) (both (f i x) (every f (suc i) xs) t .0)
 from f (x ∷ xs) i d t (suc k) h =
-    subst (λ (m : ℕ). T (f m (getD xs k d))) (suc-add i k ∙ sym (add-suc i k))
-    (from f xs (suc i) d (right (f i x) (every f (suc i) xs) t) k (le-of-suc-le-suc h))
+    rw (add-suc i k ∙ sym (suc-add i k)) (from f xs (suc i) d (both (f i x) (every f (suc i) xs) t .1) k (le-of-suc-le-suc h))
 
-pub each-row : (f : ℕ → Row → Bool) → T (every f 0 operations) → (o : Operation) → T (f (operationNumber o) (getD operations (operationNumber o) (row Chk "")))
-each-row f t o =
-    subst (λ (m : ℕ). T (f m (getD operations (operationNumber o) (row Chk "")))) (zero-add (operationNumber o))
-    (from f operations 0 (row Chk "") t (operationNumber o) (stands o .0))
+pub each-row : (f : ℕ → Row → Bool) → every f 0 operations ≡ true → (o : Operation) → f (operationNumber o) (getD operations (operationNumber o) (row Chk "")) ≡ true
+each-row f t o = rw (zero-add (operationNumber o)) at (from f operations 0 (row Chk "") t (operationNumber o) (stands o .0))
 
 -- ---- a number that names no row
 

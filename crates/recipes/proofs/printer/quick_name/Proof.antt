@@ -1,9 +1,0 @@
--- `recipes::printer::quick_name` meets its contract, arm by arm: the letters before the first blank are the name. Assumes nothing.
-use borrow.Author.Needs.{needs}
-use Rattle.recipes.specs.Text.{before}
-use Rattle.recipes.proofs.printer.quick_name.Statement.{statement}
-use Rattle.recipes.proofs.printer.quick_name.Tie as tie
-
-pub quick-name-spec : {M : Type 1} → statement M
-unfolding before
-quick-name-spec = tie.close (tie.spec (search needs) (search needs) (λ c. rw (c .enum-told .given .1)) (λ c. rw (c .enum-told2 .given .1)))
