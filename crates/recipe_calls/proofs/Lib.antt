@@ -1,6 +1,5 @@
 -- What the proofs of several functions use, and the laws of the contracts.
 mod Naming
-mod Tables
 mod Turns
 mod Telling
 pub mod Round

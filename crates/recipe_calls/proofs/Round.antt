@@ -5,31 +5,22 @@ use mathlib.Core.Path.{_≡_, refl, sym, _∙_}
 use mathlib.Core.List.{List, [], _∷_, map}
 use lib.Dec.{lit<}
 use native.Mathlib.Omega.{arith}
-use lib.ListN.{length, getD, length-map}
+use lib.ListN.{length, length-map}
 use lib.Seq.{take-all}
 use Rattle.alu.specs.declared.types.Size.{Size}
 use Rattle.alu.specs.declared.types.Size.the-variants.{Byte, Word, Long}
-use Rattle.step.specs.declared.forms.TwoOp.{TwoOp}
-use Rattle.step.specs.declared.forms.TwoOp.the-variants.{Add, Sub, Cmp, Addx, Subx}
-use Rattle.step.specs.declared.forms.AddressOp.{AddressOp}
-use Rattle.step.specs.declared.forms.AddressOp.the-variants.{Adda, Suba, Cmpa}
-use Rattle.step.specs.declared.forms.OneOp.{OneOp}
-use Rattle.step.specs.declared.forms.OneOp.the-variants.{Clr, Neg, Negx, Not, Ext}
-use Rattle.alu.specs.declared.shift_rotate.ShiftOp.{ShiftOp}
-use Rattle.alu.specs.declared.shift_rotate.ShiftOp.the-variants.{Asl, Asr, Lsl, Lsr, Rol, Ror, Roxl, Roxr}
-use Rattle.alu.specs.declared.bit_manip.BitOp.{BitOp}
-use Rattle.alu.specs.declared.bit_manip.BitOp.the-variants.{Btst, Bset, Bclr, Bchg}
-use Rattle.step.specs.declared.forms.QuickOp.the-variants.{Addq, Subq}
 use Rattle.step.specs.declared.forms.Register.the-variants as Register
 use Rattle.step.specs.declared.forms.Count.the-variants as Count
 use Rattle.step.specs.declared.forms.Form.{Form}
 use Rattle.step.specs.declared.forms.Form.the-variants as Form
 use Rattle.step.specs.declared.forms.Step.{Step}
+use Rattle.step.specs.declared.forms.Operation.{Operation}
+use Rattle.step.specs.Operations.{operationNumber, operationOf}
+use Rattle.step.proofs.Operations.{stands}
 use Rattle.step.specs.Run.{arraySlots}
-use Rattle.recipe_calls.specs.declared.words.Operation.the-variants.{Unknown, Two, Address, One, Shift, Bit}
 use Rattle.recipe_calls.specs.declared.words.Made.the-variants.{Is}
-use Rattle.recipe_calls.specs.Words.{byteRadix, operations, madeOf, sizedOf, stepOf, firstOf, stepWord}
-use Rattle.recipe_calls.specs.Words.{twoNumber, addressNumber, oneNumber, shiftNumber, bitNumber, sizeNumber, operationNumber, sourceKind, sourceNumber, destinationNumber}
+use Rattle.recipe_calls.specs.Words.{byteRadix, madeOf, sizedOf, stepOf, firstOf, stepWord}
+use Rattle.recipe_calls.specs.Words.{sizeNumber, sourceKind, sourceNumber, destinationNumber}
 use Rattle.recipe_calls.proofs.Naming.{form-named}
 
 -- ---- bytes: what stands in one comes out of it. 256, 65536 .. are the powers of `byteRadix`, as they compute
@@ -49,56 +40,19 @@ byte-3 a b c d e h i j k = omega arith
 byte-4 : (a b c d e : ℕ) → a < byteRadix → b < byteRadix → c < byteRadix → d < byteRadix → e < byteRadix → (a + b * 256 + c * 65536 + d * 16777216 + e * 4294967296) / 4294967296 % 256 ≡ e
 byte-4 a b c d e h i j k l = omega arith
 
--- ---- what stands in the table for an operation
+-- ---- the form that an operation and its operands make
 
-two-found : (op : TwoOp) → getD operations (twoNumber op) Unknown ≡ Two op
-two-found Add = refl
-two-found Sub = refl
-two-found Cmp = refl
-two-found Addx = refl
-two-found Subx = refl
-
-address-found : (op : AddressOp) → getD operations (addressNumber op) Unknown ≡ Address op
-address-found Adda = refl
-address-found Suba = refl
-address-found Cmpa = refl
-
-one-found : (op : OneOp) → getD operations (oneNumber op) Unknown ≡ One op
-one-found Clr = refl
-one-found Neg = refl
-one-found Negx = refl
-one-found Not = refl
-one-found Ext = refl
-
-shift-found : (op : ShiftOp) → getD operations (shiftNumber op) Unknown ≡ Shift op
-shift-found Asl = refl
-shift-found Asr = refl
-shift-found Lsl = refl
-shift-found Lsr = refl
-shift-found Rol = refl
-shift-found Ror = refl
-shift-found Roxl = refl
-shift-found Roxr = refl
-
-bit-found : (op : BitOp) → getD operations (bitNumber op) Unknown ≡ Bit op
-bit-found Btst = refl
-bit-found Bset = refl
-bit-found Bclr = refl
-bit-found Bchg = refl
-
-form-found : (form : Form) → madeOf (getD operations (operationNumber form) Unknown) (sourceKind form) (sourceNumber form) (destinationNumber form) ≡ Is form
-form-found (Form.Two op p q) = rw (two-found op)
-form-found (Form.Address op (Register.Data p) q) = rw (address-found op)
-form-found (Form.Address op (Register.Address p) q) = rw (address-found op)
-form-found (Form.Quick Addq k (Register.Data q)) = refl
-form-found (Form.Quick Addq k (Register.Address q)) = refl
-form-found (Form.Quick Subq k (Register.Data q)) = refl
-form-found (Form.Quick Subq k (Register.Address q)) = refl
-form-found (Form.One op q) = rw (one-found op)
-form-found (Form.Shift op (Count.Small k) q) = rw (shift-found op)
-form-found (Form.Shift op (Count.Data k) q) = rw (shift-found op)
-form-found (Form.Bit op (Count.Small k) q) = rw (bit-found op)
-form-found (Form.Bit op (Count.Data k) q) = rw (bit-found op)
+form-found : (form : Form) → madeOf (operationOf form) (sourceKind form) (sourceNumber form) (destinationNumber form) ≡ Is form
+form-found (Form.Two op p q) = refl
+form-found (Form.Address op (Register.Data p) q) = refl
+form-found (Form.Address op (Register.Address p) q) = refl
+form-found (Form.Quick op k (Register.Data q)) = refl
+form-found (Form.Quick op k (Register.Address q)) = refl
+form-found (Form.One op q) = refl
+form-found (Form.Shift op (Count.Small k) q) = refl
+form-found (Form.Shift op (Count.Data k) q) = refl
+form-found (Form.Bit op (Count.Small k) q) = refl
+form-found (Form.Bit op (Count.Data k) q) = refl
 form-found (Form.Chk p q) = refl
 
 size-found : (size : Size) (form : Form) → sizedOf (sizeNumber size) form ≡ record { size = size; form = form }
@@ -108,52 +62,8 @@ size-found Long form = refl
 
 -- ---- the three bytes that are no operand's number
 
-two-small : (op : TwoOp) → twoNumber op < byteRadix
-two-small Add = lit< tt
-two-small Sub = lit< tt
-two-small Cmp = lit< tt
-two-small Addx = lit< tt
-two-small Subx = lit< tt
-
-address-small : (op : AddressOp) → addressNumber op < byteRadix
-address-small Adda = lit< tt
-address-small Suba = lit< tt
-address-small Cmpa = lit< tt
-
-one-small : (op : OneOp) → oneNumber op < byteRadix
-one-small Clr = lit< tt
-one-small Neg = lit< tt
-one-small Negx = lit< tt
-one-small Not = lit< tt
-one-small Ext = lit< tt
-
-shift-small : (op : ShiftOp) → shiftNumber op < byteRadix
-shift-small Asl = lit< tt
-shift-small Asr = lit< tt
-shift-small Lsl = lit< tt
-shift-small Lsr = lit< tt
-shift-small Rol = lit< tt
-shift-small Ror = lit< tt
-shift-small Roxl = lit< tt
-shift-small Roxr = lit< tt
-
-bit-small : (op : BitOp) → bitNumber op < byteRadix
-bit-small Btst = lit< tt
-bit-small Bset = lit< tt
-bit-small Bclr = lit< tt
-bit-small Bchg = lit< tt
-
-operation-small : (form : Form) → operationNumber form < byteRadix
-operation-small (Form.Two op p q) = two-small op
-operation-small (Form.Address op p q) = address-small op
-operation-small (Form.Quick Addq k (Register.Data q)) = lit< tt
-operation-small (Form.Quick Addq k (Register.Address q)) = lit< tt
-operation-small (Form.Quick Subq k (Register.Data q)) = lit< tt
-operation-small (Form.Quick Subq k (Register.Address q)) = lit< tt
-operation-small (Form.One op q) = one-small op
-operation-small (Form.Shift op k q) = shift-small op
-operation-small (Form.Bit op k q) = bit-small op
-operation-small (Form.Chk p q) = lit< tt
+operation-small : (o : Operation) → operationNumber o < byteRadix
+operation-small o = omega (arith, stands o .0)
 
 kind-small : (form : Form) → sourceKind form < byteRadix
 kind-small (Form.Two op p q) = lit< tt
@@ -183,17 +93,17 @@ pub word-names : (k : Step) → Bytes k → stepOf (stepWord k) ≡ k
 unfolding stepWord
 word-names k h =
     let f = k .form in
-    let o = operation-small f in
+    let o = operation-small (operationOf f) in
     let z = size-small (k .size) in
     let w = kind-small f in
     let s = h .source in
-    let a = operationNumber f in
+    let a = operationNumber (operationOf f) in
     let b = sizeNumber (k .size) in
     let c = sourceKind f in
     let d = sourceNumber f in
     let e = destinationNumber f in
     sym
-    (form-named (stepWord k) (sym (byte-0 a b c d e o)) refl (sym (byte-2 a b c d e o z w)) (sym (byte-3 a b c d e o z w s)) (sym (byte-4 a b c d e o z w s (h .destination)))
+    (form-named (stepWord k) (sym (byte-0 a b c d e o)) refl (stands (operationOf f) .1) (sym (byte-2 a b c d e o z w)) (sym (byte-3 a b c d e o z w s)) (sym (byte-4 a b c d e o z w s (h .destination)))
     refl (form-found f) (sym (byte-1 a b c d e o z)))
     ∙ size-found (k .size) f
 

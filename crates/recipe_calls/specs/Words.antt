@@ -1,23 +1,11 @@
 -- A step as one number: a word for a caller in another language. Assumes nothing.
 use Prim.Native.Nat.{ℕ, _+_, _*_, _/_, _%_, _^_}
 use mathlib.Core.Bool.{cond}
-use mathlib.Core.List.{List, [], _∷_, map}
+use mathlib.Core.List.{List, map}
 use lib.Dec.{eqb}
-use lib.ListN.{getD, take}
+use lib.ListN.{take}
 use Rattle.alu.specs.declared.types.Size.{Size}
 use Rattle.alu.specs.declared.types.Size.the-variants.{Byte, Word, Long}
-use Rattle.alu.specs.declared.shift_rotate.ShiftOp.{ShiftOp}
-use Rattle.alu.specs.declared.shift_rotate.ShiftOp.the-variants.{Asl, Asr, Lsl, Lsr, Rol, Ror, Roxl, Roxr}
-use Rattle.alu.specs.declared.bit_manip.BitOp.{BitOp}
-use Rattle.alu.specs.declared.bit_manip.BitOp.the-variants.{Btst, Bset, Bclr, Bchg}
-use Rattle.step.specs.declared.forms.TwoOp.{TwoOp}
-use Rattle.step.specs.declared.forms.TwoOp.the-variants.{Add, Sub, Cmp, Addx, Subx}
-use Rattle.step.specs.declared.forms.AddressOp.{AddressOp}
-use Rattle.step.specs.declared.forms.AddressOp.the-variants.{Adda, Suba, Cmpa}
-use Rattle.step.specs.declared.forms.QuickOp.{QuickOp}
-use Rattle.step.specs.declared.forms.QuickOp.the-variants.{Addq, Subq}
-use Rattle.step.specs.declared.forms.OneOp.{OneOp}
-use Rattle.step.specs.declared.forms.OneOp.the-variants.{Clr, Neg, Negx, Not, Ext}
 use Rattle.step.specs.declared.forms.Register.{Register}
 use Rattle.step.specs.declared.forms.Register.the-variants as Register
 use Rattle.step.specs.declared.forms.Count.{Count}
@@ -25,9 +13,12 @@ use Rattle.step.specs.declared.forms.Count.the-variants as Count
 use Rattle.step.specs.declared.forms.Form.{Form}
 use Rattle.step.specs.declared.forms.Form.the-variants as Form
 use Rattle.step.specs.declared.forms.Step.{Step}
+use Rattle.step.specs.declared.forms.Operation.{Operation}
+use Rattle.step.specs.declared.forms.Operation.the-variants.{Two, Address, Quick, QuickAddress, One, Shift, Bit, Chk}
+use Rattle.step.specs.declared.forms.Found.{Found}
+use Rattle.step.specs.declared.forms.Found.the-variants as Found
+use Rattle.step.specs.Operations.{operationAt, operationNumber, operationOf}
 use Rattle.step.specs.Run.{arraySlots}
-use Rattle.recipe_calls.specs.declared.words.Operation.{Operation}
-use Rattle.recipe_calls.specs.declared.words.Operation.the-variants.{Two, Address, Quick, QuickAddress, One, Shift, Bit, Chk, Unknown}
 use Rattle.recipe_calls.specs.declared.words.Made.{Made}
 use Rattle.recipe_calls.specs.declared.words.Made.the-variants.{Is, NoForm}
 
@@ -39,21 +30,9 @@ byteRadix = 2 ^ 8
 abbrev pub byteOf : (i word : ℕ) → ℕ
 byteOf i word = word / byteRadix ^ i % byteRadix
 
--- ---- a step: byte 0 is the operation, 1 the size (0 byte, 1 word, 2 long), 2 the source's kind (0 none, 1 a small number, 2 a data register, 3 an
+-- ---- a step: byte 0 is the operation (step/specs/Operations), 1 the size (0 byte, 1 word, 2 long), 2 the source's kind (0 none, 1 a small number, 2 a data register, 3 an
 -- address register), 3 the source's number, 4 the destination's register number. Bytes 5 to 7 are kept for later: a word is written with 0 there, and
 -- read whatever they hold. Byte 3 does not count where the kind is 0
-
--- the operations by number, from 0, as `alu_call` numbers them (`operations` of calls/specs/Packed). ADDQ and SUBQ stand twice: on a data register
--- and on an address register
-abbrev pub operations : List Operation
-operations =
-    Two Add ∷ Two Sub ∷ Two Cmp ∷ Two Addx ∷ Two Subx ∷
-    Address Adda ∷ Address Suba ∷ Address Cmpa ∷
-    Quick Addq ∷ Quick Subq ∷ QuickAddress Addq ∷ QuickAddress Subq ∷
-    One Clr ∷ One Neg ∷ One Negx ∷ One Not ∷ One Ext ∷
-    Shift Asl ∷ Shift Asr ∷ Shift Lsl ∷ Shift Lsr ∷ Shift Rol ∷ Shift Ror ∷ Shift Roxl ∷ Shift Roxr ∷
-    Bit Btst ∷ Bit Bset ∷ Bit Bclr ∷ Bit Bchg ∷
-    Chk ∷ []
 
 -- a form that takes one kind of source, or either of two
 abbrev pub only : (kind wanted : ℕ) → Form → Made
@@ -76,7 +55,11 @@ madeOf (Shift op) kind s t =
 madeOf (Bit op) kind s t =
     either kind 1 (Form.Bit op (Count.Small s) (record { 0 = t })) 2 (Form.Bit op (Count.Data (record { 0 = s })) (record { 0 = t }))
 madeOf Chk kind s t = only kind 2 (Form.Chk (record { 0 = s }) (record { 0 = t }))
-madeOf Unknown kind s t = NoForm
+
+-- where a number names no operation there is none
+abbrev pub formOf : Found → (kind s t : ℕ) → Made
+formOf (Found.Is o) kind s t = madeOf o kind s t
+formOf Found.NoOperation kind s t = NoForm
 
 -- what a word stands for that names no step: a CHK of a byte, which the machine refuses with 2
 abbrev pub noStep : Step
@@ -92,63 +75,13 @@ named size (Is form) = sizedOf size form
 named size NoForm = noStep
 
 unfoldable pub stepOf : (word : ℕ) → Step
-stepOf word = named (byteOf 1 word) (madeOf (getD operations (byteOf 0 word) Unknown) (byteOf 2 word) (byteOf 3 word) (byteOf 4 word))
+stepOf word = named (byteOf 1 word) (formOf (operationAt (byteOf 0 word)) (byteOf 2 word) (byteOf 3 word) (byteOf 4 word))
 
 -- the steps of a listing in words: as many as an array holds
 abbrev pub firstOf : List ℕ → List Step
 firstOf listing = map stepOf (take arraySlots listing)
 
 -- ---- the word of a step (`word-names` of proofs/Round: it names that step)
-
-abbrev pub twoNumber : TwoOp → ℕ
-twoNumber Add = 0x00
-twoNumber Sub = 0x01
-twoNumber Cmp = 0x02
-twoNumber Addx = 0x03
-twoNumber Subx = 0x04
-
-abbrev pub addressNumber : AddressOp → ℕ
-addressNumber Adda = 0x05
-addressNumber Suba = 0x06
-addressNumber Cmpa = 0x07
-
-abbrev pub quickNumber : QuickOp → Register → ℕ
-quickNumber Addq (Register.Data r) = 0x08
-quickNumber Addq (Register.Address r) = 0x0a
-quickNumber Subq (Register.Data r) = 0x09
-quickNumber Subq (Register.Address r) = 0x0b
-
-abbrev pub oneNumber : OneOp → ℕ
-oneNumber Clr = 0x0c
-oneNumber Neg = 0x0d
-oneNumber Negx = 0x0e
-oneNumber Not = 0x0f
-oneNumber Ext = 0x10
-
-abbrev pub shiftNumber : ShiftOp → ℕ
-shiftNumber Asl = 0x11
-shiftNumber Asr = 0x12
-shiftNumber Lsl = 0x13
-shiftNumber Lsr = 0x14
-shiftNumber Rol = 0x15
-shiftNumber Ror = 0x16
-shiftNumber Roxl = 0x17
-shiftNumber Roxr = 0x18
-
-abbrev pub bitNumber : BitOp → ℕ
-bitNumber Btst = 0x19
-bitNumber Bset = 0x1a
-bitNumber Bclr = 0x1b
-bitNumber Bchg = 0x1c
-
-abbrev pub operationNumber : Form → ℕ
-operationNumber (Form.Two op p q) = twoNumber op
-operationNumber (Form.Address op p q) = addressNumber op
-operationNumber (Form.Quick op k q) = quickNumber op q
-operationNumber (Form.One op q) = oneNumber op
-operationNumber (Form.Shift op k q) = shiftNumber op
-operationNumber (Form.Bit op k q) = bitNumber op
-operationNumber (Form.Chk p q) = 0x1d
 
 abbrev pub sizeNumber : Size → ℕ
 sizeNumber Byte = 0
@@ -200,5 +133,5 @@ destinationNumber (Form.Chk p q) = q .0
 
 unfoldable pub stepWord : Step → ℕ
 stepWord k =
-    operationNumber (k .form) + sizeNumber (k .size) * byteRadix ^ 1 + sourceKind (k .form) * byteRadix ^ 2 + sourceNumber (k .form) * byteRadix ^ 3
+    operationNumber (operationOf (k .form)) + sizeNumber (k .size) * byteRadix ^ 1 + sourceKind (k .form) * byteRadix ^ 2 + sourceNumber (k .form) * byteRadix ^ 3
     + destinationNumber (k .form) * byteRadix ^ 4

@@ -2,37 +2,20 @@
 // In a contract `only` and `either` are the definitions of specs/, not the functions here.
 ghost use mathlib.Core.Path.{_≡_};
 ghost use Prim.Native.Nat.{_<_, _^_, _%_};
-ghost use lib.ListN.{getD};
-ghost use Rattle.recipe_calls.specs.declared.words.Operation.the-variants as Operation;
-ghost use Rattle.recipe_calls.specs.Words.{byteRadix, operations, only, either, madeOf, noStep, sizedOf, stepOf};
-ghost use Rattle.recipe_calls.specs.Words.{twoNumber, addressNumber, quickNumber, oneNumber, shiftNumber, bitNumber, sizeNumber, operationNumber};
-ghost use Rattle.recipe_calls.specs.Words.{registerKind, registerNumber, countKind, countNumber, sourceKind, sourceNumber, destinationNumber, stepWord};
-use alu::bit_manip::BitOp;
-use alu::shift_rotate::ShiftOp;
+ghost use Rattle.recipe_calls.specs.Words.{byteRadix, only, either, madeOf, noStep, sizedOf, stepOf};
+ghost use Rattle.recipe_calls.specs.Words.{sizeNumber, registerKind, registerNumber, countKind, countNumber, sourceKind, sourceNumber, destinationNumber, stepWord};
 use alu::types::Size;
-use step::forms::AddressOp;
 use step::forms::Count;
 use step::forms::Form;
-use step::forms::OneOp;
-use step::forms::QuickOp;
+use step::forms::Found;
+use step::forms::Operation;
 use step::forms::Register;
 use step::forms::Step;
-use step::forms::TwoOp;
+use step::forms::number;
+use step::forms::operation_at;
+use step::forms::operation_of;
 use step::registers::A;
 use step::registers::D;
-
-// What an operation's number names: the form that it has, but for the operands.
-pub(crate) enum Operation {
-    Two(TwoOp),
-    Address(AddressOp),
-    Quick(QuickOp),
-    QuickAddress(QuickOp),
-    One(OneOp),
-    Shift(ShiftOp),
-    Bit(BitOp),
-    Chk,
-    Unknown,
-}
 
 // A form, where an operation and its operands make one.
 pub(crate) enum Made {
@@ -50,44 +33,6 @@ const DATA: u8 = 2;
 const ADDRESS: u8 = 3;
 
 // ---- from a word to a step
-
-fn operation_of(number: u8) -> Operation
-    ensures { λ r. ⌜ r ≡ getD operations number Operation.Unknown ⌝ }
-{
-    match number {
-        0x00 => Operation::Two(TwoOp::Add),
-        0x01 => Operation::Two(TwoOp::Sub),
-        0x02 => Operation::Two(TwoOp::Cmp),
-        0x03 => Operation::Two(TwoOp::Addx),
-        0x04 => Operation::Two(TwoOp::Subx),
-        0x05 => Operation::Address(AddressOp::Adda),
-        0x06 => Operation::Address(AddressOp::Suba),
-        0x07 => Operation::Address(AddressOp::Cmpa),
-        0x08 => Operation::Quick(QuickOp::Addq),
-        0x09 => Operation::Quick(QuickOp::Subq),
-        0x0a => Operation::QuickAddress(QuickOp::Addq),
-        0x0b => Operation::QuickAddress(QuickOp::Subq),
-        0x0c => Operation::One(OneOp::Clr),
-        0x0d => Operation::One(OneOp::Neg),
-        0x0e => Operation::One(OneOp::Negx),
-        0x0f => Operation::One(OneOp::Not),
-        0x10 => Operation::One(OneOp::Ext),
-        0x11 => Operation::Shift(ShiftOp::Asl),
-        0x12 => Operation::Shift(ShiftOp::Asr),
-        0x13 => Operation::Shift(ShiftOp::Lsl),
-        0x14 => Operation::Shift(ShiftOp::Lsr),
-        0x15 => Operation::Shift(ShiftOp::Rol),
-        0x16 => Operation::Shift(ShiftOp::Ror),
-        0x17 => Operation::Shift(ShiftOp::Roxl),
-        0x18 => Operation::Shift(ShiftOp::Roxr),
-        0x19 => Operation::Bit(BitOp::Btst),
-        0x1a => Operation::Bit(BitOp::Bset),
-        0x1b => Operation::Bit(BitOp::Bclr),
-        0x1c => Operation::Bit(BitOp::Bchg),
-        0x1d => Operation::Chk,
-        _ => Operation::Unknown,
-    }
-}
 
 // A form that takes one kind of source, and one that takes either of two.
 fn only(kind: u8, wanted: u8, form: Form) -> Made
@@ -146,7 +91,6 @@ fn form_of(operation: Operation, kind: u8, source: u8, destination: u8) -> Made
             Form::Bit(op, Count::Data(p), q),
         ),
         Operation::Chk => only(kind, DATA, Form::Chk(p, q)),
-        Operation::Unknown => Made::NoForm,
     }
 }
 
@@ -190,9 +134,11 @@ fn byte(word: u64) -> u8
 pub(crate) fn step_of(word: u64) -> Step
     ensures { λ r. ⌜ r ≡ stepOf word ⌝ }
 {
-    let named = operation_of(byte(word));
+    let Found::Is(operation) = operation_at(byte(word)) else {
+        return no_step();
+    };
     let found = form_of(
-        named,
+        operation,
         byte(word / 0x1_0000),
         byte(word / 0x100_0000),
         byte(word / 0x1_0000_0000),
@@ -204,96 +150,6 @@ pub(crate) fn step_of(word: u64) -> Step
 }
 
 // ---- from a step to its word
-
-fn two_number(op: TwoOp) -> u8
-    ensures { λ r. ⌜ r ≡ twoNumber op ⌝ }
-{
-    match op {
-        TwoOp::Add => 0x00,
-        TwoOp::Sub => 0x01,
-        TwoOp::Cmp => 0x02,
-        TwoOp::Addx => 0x03,
-        TwoOp::Subx => 0x04,
-    }
-}
-
-fn address_number(op: AddressOp) -> u8
-    ensures { λ r. ⌜ r ≡ addressNumber op ⌝ }
-{
-    match op {
-        AddressOp::Adda => 0x05,
-        AddressOp::Suba => 0x06,
-        AddressOp::Cmpa => 0x07,
-    }
-}
-
-// On a data register, or on an address register.
-fn quick_number(op: QuickOp, destination: Register) -> u8
-    ensures { λ r. ⌜ r ≡ quickNumber op destination ⌝ }
-{
-    match op {
-        QuickOp::Addq => match destination {
-            Register::Data(_) => 0x08,
-            Register::Address(_) => 0x0a,
-        },
-        QuickOp::Subq => match destination {
-            Register::Data(_) => 0x09,
-            Register::Address(_) => 0x0b,
-        },
-    }
-}
-
-fn one_number(op: OneOp) -> u8
-    ensures { λ r. ⌜ r ≡ oneNumber op ⌝ }
-{
-    match op {
-        OneOp::Clr => 0x0c,
-        OneOp::Neg => 0x0d,
-        OneOp::Negx => 0x0e,
-        OneOp::Not => 0x0f,
-        OneOp::Ext => 0x10,
-    }
-}
-
-fn shift_number(op: ShiftOp) -> u8
-    ensures { λ r. ⌜ r ≡ shiftNumber op ⌝ }
-{
-    match op {
-        ShiftOp::Asl => 0x11,
-        ShiftOp::Asr => 0x12,
-        ShiftOp::Lsl => 0x13,
-        ShiftOp::Lsr => 0x14,
-        ShiftOp::Rol => 0x15,
-        ShiftOp::Ror => 0x16,
-        ShiftOp::Roxl => 0x17,
-        ShiftOp::Roxr => 0x18,
-    }
-}
-
-fn bit_number(op: BitOp) -> u8
-    ensures { λ r. ⌜ r ≡ bitNumber op ⌝ }
-{
-    match op {
-        BitOp::Btst => 0x19,
-        BitOp::Bset => 0x1a,
-        BitOp::Bclr => 0x1b,
-        BitOp::Bchg => 0x1c,
-    }
-}
-
-fn operation_number(form: Form) -> u8
-    ensures { λ r. ⌜ r ≡ operationNumber form ⌝ }
-{
-    match form {
-        Form::Two(op, _, _) => two_number(op),
-        Form::Address(op, _, _) => address_number(op),
-        Form::Quick(op, _, q) => quick_number(op, q),
-        Form::One(op, _) => one_number(op),
-        Form::Shift(op, _, _) => shift_number(op),
-        Form::Bit(op, _, _) => bit_number(op),
-        Form::Chk(_, _) => 0x1d,
-    }
-}
 
 fn size_number(size: Size) -> u8
     ensures { λ r. ⌜ r ≡ sizeNumber size ⌝ }
@@ -395,7 +251,7 @@ pub(crate) fn step_word(step: Step) -> u64
 {
     let size = step.size;
     let form = step.form;
-    wide(operation_number(form))
+    wide(number(operation_of(form)))
         + wide(size_number(size)) * 0x100
         + wide(source_kind(form)) * 0x1_0000
         + wide(source_number(form)) * 0x100_0000

@@ -42,4 +42,4 @@ recipe-translate-spec =
     tie.close
     (tie.spec
     (λ c. search needs) (λ c. search needs) (λ c. search needs) returns (λ c. search needs) (λ c. search needs) returns-2 (λ c. search needs)
-    (λ c. search needs) returns-3)
+    (λ c. search needs) (λ c. search needs) returns-3)

@@ -9,9 +9,8 @@ form-of-spec =
     (tie.spec
     (λ c. search needs) (λ c. search needs) (λ c. search needs) (λ c. search needs) (λ c. search needs) (λ c. search needs) (λ c. search needs)
     (λ c. search needs) (λ c. search needs) (λ c. search needs) (λ c. search needs) (λ c. search needs) (λ c. search needs) (λ c. search needs)
-    (λ c. search needs) (λ c. search needs) (λ c. search needs) (λ c. rw (c .before .before .operation .given .1) (c .only .ensures))
+    (λ c. search needs) (λ c. search needs) (λ c. rw (c .before .before .operation .given .1) (c .only .ensures))
     (λ c. rw (c .before .before .operation2 .given .1) (c .either .ensures)) (λ c. rw (c .before .before .operation3 .given .1) (c .only2 .ensures))
     (λ c. rw (c .before .before .operation4 .given .1) (c .only3 .ensures)) (λ c. rw (c .before .before .operation5 .given .1) (c .only4 .ensures))
     (λ c. rw (c .before .before .operation6 .given .1) (c .either2 .ensures))
-    (λ c. rw (c .before .before .operation7 .given .1) (c .either3 .ensures)) (λ c. rw (c .before .enum-told .given .1) (c .only5 .ensures))
-    (λ c. search needs))
+    (λ c. rw (c .before .before .operation7 .given .1) (c .either3 .ensures)) (λ c. rw (c .before .enum-told .given .1) (c .only5 .ensures)))

@@ -21,7 +21,8 @@ returns c =
       z .wide2 .ensures .0,
       z .before .size-number .ensures,
       o .wide .ensures .0,
-      o .before .operation-number .ensures,
+      o .before .number .ensures,
+      o .before .before .operation-of .ensures,
     )
 
 pub step-word-spec : {M : Type 1} → statement M
@@ -30,4 +31,4 @@ step-word-spec =
     (tie.spec
     (λ c. search needs) (λ c. search needs) (λ c. search needs) (λ c. search needs) (λ c. search needs) (λ c. search needs) (λ c. search needs)
     (λ c. search needs) (λ c. search needs) (λ c. search needs) (λ c. search needs) (λ c. search needs) (λ c. search needs) (λ c. search needs)
-    (λ c. search needs) (λ c. search needs) (λ c. search needs) (λ c. search needs) returns)
+    (λ c. search needs) (λ c. search needs) (λ c. search needs) (λ c. search needs) (λ c. search needs) returns)
