@@ -3,4 +3,5 @@ mod Naming
 mod Turns
 mod Telling
 pub mod Round
+pub mod Agree
 pub mod Determined

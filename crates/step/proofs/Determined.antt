@@ -28,6 +28,9 @@ use Rattle.step.specs.declared.lent.Told.{Told}
 use Rattle.step.specs.Perform.{performOf}
 use Rattle.step.specs.Run.{runOf}
 use Rattle.step.specs.Lent.{performed}
+use Rattle.step.proofs.forms.operation_of.Reads as operation-of
+use Rattle.step.proofs.forms.operation_at.Reads as operation-at
+use Rattle.step.proofs.forms.number.Reads as operation-number
 use Rattle.step.proofs.steps.number.Reads as number
 use Rattle.step.proofs.steps.class.Reads as class
 use Rattle.step.proofs.steps.perform.Reads as perform
@@ -39,6 +42,9 @@ use Rattle.step.proofs.lent.store as store
 
 pub determined : List Fixed
 determined =
+    fixed operation-of.Learnt (one-equation _) ∷
+    fixed operation-at.Learnt (one-equation _) ∷
+    fixed operation-number.Learnt (one-equation _) ∷
     fixed number.Learnt (one-equation _) ∷
     fixed class.Learnt (one-equation _) ∷
     fixed perform.Learnt (one-equation _) ∷
