@@ -4,19 +4,14 @@
 //!
 //! A row that is only written is full of ones before, so that a place that the port leaves out shows.
 
-use crate::recipes::LINES_MAX;
 use crate::steps::{Flags, Slice, State};
+
+/// What a function tells.
+type Told = [u64; 8];
 
 unsafe extern "C" {
     fn recipe_archive_recipe_answer(text: &Slice<u8>, out: &Slice<u8>) -> usize;
-    fn recipe_archive_recipe_read(text: &Slice<u8>, lines: &mut [u32; LINES_MAX], told: &mut [u64; 4]);
-    fn recipe_archive_recipe_translate(
-        width: u8,
-        count: usize,
-        lines: &[u32; LINES_MAX],
-        listing: &Slice<u64>,
-        told: &mut [u64; 3],
-    );
+    fn recipe_archive_recipe_translate(text: &Slice<u8>, listing: &Slice<u64>, told: &mut Told);
     fn recipe_archive_listing_run(
         listing: &Slice<u64>,
         d: &mut [u32; 8],
@@ -24,7 +19,7 @@ unsafe extern "C" {
         flags: &mut u8,
         start: usize,
         budget: u32,
-        told: &mut [u64; 6],
+        told: &mut Told,
     );
 }
 
@@ -34,27 +29,17 @@ pub fn recipe_answer(text: &[u8], out: &mut [u8]) -> usize {
     unsafe { recipe_archive_recipe_answer(&Slice::lent(text), &Slice::lent_to_write(out)) }
 }
 
-/// The refusal's number, its line, the width and the number of lines; and all lines.
-pub fn recipe_read(text: &[u8]) -> ([u64; 4], [u32; LINES_MAX]) {
-    let (mut told, mut lines) = ([u64::MAX; 4], [u32::MAX; LINES_MAX]);
+/// The refusal's number, its line and the number of steps; then zeros.
+pub fn recipe_translate(text: &[u8], listing: &mut [u64]) -> Told {
+    let mut told = [u64::MAX; 8];
     // SAFETY: as above.
-    unsafe { recipe_archive_recipe_read(&Slice::lent(text), &mut lines, &mut told) };
-    (told, lines)
-}
-
-/// The refusal's number, its line and the number of steps.
-pub fn recipe_translate(width: u8, count: usize, lines: &[u32; LINES_MAX], listing: &mut [u64]) -> [u64; 3] {
-    let mut told = [u64::MAX; 3];
-    // SAFETY: as above.
-    unsafe {
-        recipe_archive_recipe_translate(width, count, lines, &Slice::lent_to_write(listing), &mut told)
-    };
+    unsafe { recipe_archive_recipe_translate(&Slice::lent(text), &Slice::lent_to_write(listing), &mut told) };
     told
 }
 
-/// What `Ran::told` tells of other runs.
-pub fn listing_run(listing: &[u64], state: &mut State, start: usize, budget: u32) -> [u64; 6] {
-    let (mut told, mut flags) = ([u64::MAX; 6], state.flags.ccr());
+/// What `Ran::told` tells of other runs; then zeros.
+pub fn listing_run(listing: &[u64], state: &mut State, start: usize, budget: u32) -> Told {
+    let (mut told, mut flags) = ([u64::MAX; 8], state.flags.ccr());
     let State { d, a, .. } = state;
     // SAFETY: as above.
     unsafe { recipe_archive_listing_run(&Slice::lent(listing), d, a, &mut flags, start, budget, &mut told) };

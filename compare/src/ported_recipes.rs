@@ -1,7 +1,7 @@
-//! What of the port takes a recipe made by hand and has no C function, and `read` to measure. It is called as the kit
-//! compiles it, as in `ported`. The layouts are those of `steps` and `recipes`.
+//! What of the port gives or takes a recipe, which no C function does. It is called as the kit compiles it, as in `ported`.
+//! The layouts are those of `steps` and `recipes`.
 
-use crate::recipes::{Recipe, SLOTS};
+use crate::recipes::{Recipe, Refused, SLOTS};
 use crate::steps::{Slice, Step};
 use std::hint::black_box;
 use std::mem::MaybeUninit;
@@ -10,7 +10,7 @@ use std::mem::MaybeUninit;
 type Refusal = u8;
 
 /// Their numbers; 0 is none.
-const NUMBERS: [usize; 7] = [0, 4, 5, 6, 7, 8, 9];
+const NUMBERS: [u8; 7] = [0, 4, 5, 6, 7, 8, 9];
 
 /// recipes::types::Reading
 #[repr(C)]
@@ -44,7 +44,7 @@ unsafe extern "C" {
 impl Translated {
     /// As the C function recipe_translate tells it: the refusal's number, its line and the number of steps.
     fn told(&self) -> [usize; 3] {
-        [NUMBERS[usize::from(self.refusal)], self.line, self.count]
+        [NUMBERS[usize::from(self.refusal)].into(), self.line, self.count]
     }
 }
 
@@ -55,14 +55,14 @@ fn answered<T>(ask: impl FnOnce(*mut T)) -> T {
     unsafe { answer.assume_init() }
 }
 
-/// For a measurement: the lines that are read.
-pub fn lines_read(text: &[u8]) -> usize {
+/// The refusal, or its number 0, and the recipe.
+pub fn read(text: &[u8]) -> (Refused, Recipe) {
     // SAFETY: the pointers are to live values, and the port keeps none of them.
     let reading: Reading = answered(|answer| unsafe { recipes_reader_read(answer, &Slice::lent(text)) });
-    black_box(reading).recipe.count
+    (Refused { number: NUMBERS[usize::from(reading.refusal)], line: reading.line }, reading.recipe)
 }
 
-/// The same of `translate_array`: the steps. The listing stays where the port wrote it.
+/// For a measurement of `translate_array`: the steps. The listing stays where the port wrote it.
 pub fn steps_laid(recipe: &Recipe) -> usize {
     let mut listing = MaybeUninit::<Listing>::uninit();
     // SAFETY: as above; the port has written all of the listing.

@@ -1,6 +1,6 @@
 //! A reading of document 01's recipes: from a text to a recipe, from that to a listing, from that to what is printed. It
-//! is written from the document alone, with lists and strings. Of the port it has the layout of the records and their
-//! words, as in `steps`, and what the reader fills unused ones with.
+//! is written from the document alone, with lists and strings. Of the port it has the layout of the records, as in
+//! `steps`, and what the reader fills unused ones with.
 
 use crate::steps::{Count, Form, One, Shift, Size, Step, Two};
 use std::fmt::Write;
@@ -58,9 +58,9 @@ pub struct Line {
 }
 
 impl Line {
-    /// The line as the C functions take it: verb, a and b, from the lowest byte up.
-    pub fn word(&self) -> u32 {
-        u32::from_le_bytes([self.verb as u8, self.a, self.b, 0])
+    /// The numbers that its verb takes.
+    pub fn named(&self) -> impl Iterator<Item = u8> {
+        [self.a, self.b].into_iter().take(VERBS[self.verb as usize].2)
     }
 }
 
@@ -92,9 +92,7 @@ pub const WIDTHS: [u8; 3] = [1, 2, 4];
 
 /// Whether a line that is well written names what isn't there (6), or copies a number onto itself (7).
 fn fault(width: u8, line: &Line) -> Option<u8> {
-    let (_, _, takes) = VERBS[line.verb as usize];
-    let named = &[line.a, line.b][..takes];
-    if named.iter().any(|&number| number >= 8 / width) {
+    if line.named().any(|number| number >= 8 / width) {
         Some(6)
     } else if line.verb == Verb::Copy && line.a == line.b {
         Some(7)

@@ -476,7 +476,7 @@ fn line_by_hand(random: &mut Random, width: u8, is_sound: bool) -> Line {
 pub fn recipe(random: &mut Random) -> Recipe {
     let width = match random.below(16) {
         0 => random.bits() as u8,
-        1 => random.below(9) as u8,
+        1 => random.pick(&[0, 3, 5, 6, 7, 8, 9, 255]),
         _ => random.pick(&WIDTHS),
     };
     let count = match random.below(16) {

@@ -67,7 +67,7 @@ impl<T> Load<T> {
 }
 
 fn to_read(texts: &Load<Vec<u8>>, turns: u32) -> Option<Costs> {
-    let port = || texts.turn(|text| ported::lines_read(text));
+    let port = || texts.turn(|text| black_box(ported::read(text)).1.count);
     let reading = || texts.turn(|text| black_box(read(text)).map_or(0, |recipe| recipe.count));
     texts.costs(turns, &port, &reading)
 }

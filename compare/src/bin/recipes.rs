@@ -2,9 +2,9 @@
 //!
 //!   recipes agree [TEXTS]   the rows of examples/refusals.tsv and of `BY_HAND`; random texts, and a tenth as many recipes made by hand
 //!
-//! SEED is the random numbers' seed. How often each refusal was met is printed; if one never was, the status is 2.
+//! SEED is the random numbers' seed. How often each refusal and each of `CASES` was met is printed; if one never was, the status is 2.
 
-use compare::c_functions::{recipe_answer, recipe_read, recipe_translate};
+use compare::c_functions::{recipe_answer, recipe_translate};
 use compare::cases::Random;
 use compare::check::Tally;
 use compare::ported_recipes as ported;
@@ -12,12 +12,9 @@ use compare::recipes::{LINES_MAX, Line, PRINT_MAX, Recipe, Refused, SLOTS, STEPS
 use compare::recipes::{answer, read, taken, translate};
 use compare::refusals;
 use compare::steps::{Form, Size, Step};
-use compare::texts::{self, KINDS};
+use compare::texts::{self, KINDS, LONGEST};
 use std::fmt::Debug;
 use std::process::ExitCode;
-
-/// What the port says where nothing is refused.
-const NOTHING: Refused = Refused { number: 0, line: 0 };
 
 /// The row for what is printed, before anything is.
 static UNTOUCHED: [u8; PRINT_MAX] = [0xA5; PRINT_MAX];
@@ -26,37 +23,17 @@ static UNTOUCHED: [u8; PRINT_MAX] = [0xA5; PRINT_MAX];
 const EMPTY: u64 = 0xA5A5_A5A5_A5A5_A5A5;
 
 /// How often each refusal number was met, and at 0 acceptance.
-#[derive(Clone, Copy, Default)]
-struct Met([u64; 10]);
+type Met = [u64; 10];
 
-impl Met {
-    fn add(&mut self, number: usize) {
-        self.0[number] += 1;
+/// Prints it; whether all of `wanted` were met.
+fn are_met(name: &str, met: &Met, wanted: &[usize]) -> bool {
+    let counts = [0, 4, 5, 6, 7, 8, 9].map(|number: usize| met[number].to_string());
+    println!("{name}\t{}", counts.join("\t"));
+    let missing: Vec<&usize> = wanted.iter().filter(|&&number| met[number] == 0).collect();
+    if !missing.is_empty() {
+        println!("NEVER MET: {name}: {missing:?}; 0 is acceptance");
     }
-
-    fn print(&self, name: &str, numbers: &[usize]) {
-        let counts: String = numbers.iter().map(|&number| format!("\t{}", self.0[number])).collect();
-        println!("{name}{counts}");
-    }
-
-    /// Whether all of `numbers` were met.
-    fn has(&self, name: &str, numbers: &[usize]) -> bool {
-        let missing: Vec<usize> = numbers.iter().copied().filter(|&number| self.0[number] == 0).collect();
-        if !missing.is_empty() {
-            println!("NEVER MET: {name}: {missing:?}; 0 is acceptance");
-        }
-        missing.is_empty()
-    }
-}
-
-fn shown(recipe: &Recipe) -> String {
-    let lines: Vec<String> = recipe
-        .lines
-        .iter()
-        .take(recipe.count)
-        .map(|line| format!("{:?} {} {}", line.verb, line.a, line.b))
-        .collect();
-    format!("width {}, {} lines: {}", recipe.width, recipe.count, lines.join(", "))
+    missing.is_empty()
 }
 
 /// What is printed, byte for byte, with nothing written behind it.
@@ -75,40 +52,42 @@ fn compare_printed(text: &[u8], out: &mut [u8; PRINT_MAX], tally: &mut Tally) {
     *out = UNTOUCHED;
 }
 
-/// What is read, and the listing of that.
-fn compare_read(text: &[u8], tally: &mut Tally) -> Refused {
-    let (refused, recipe) = read(text).map_or_else(|r| (r, Recipe::empty(1)), |recipe| (NOTHING, recipe));
-    let told = [refused.number.into(), refused.line as u64, recipe.width.into(), recipe.count as u64];
-    let want = (told, recipe.lines.map(|line| line.word()));
-    let got = recipe_read(text);
+/// What is read; of a refused text a recipe of width 1 without lines.
+fn compare_read(text: &[u8], tally: &mut Tally) {
+    let want =
+        read(text).map_or_else(|r| (r, Recipe::empty(1)), |recipe| (Refused { number: 0, line: 0 }, recipe));
+    let got = ported::read(text);
     tally.count(got == want, || {
-        format!("text \"{}\"\n  port     {got:x?}\n  reading  {want:x?}", text.escape_ascii())
-    });
-    if refused == NOTHING {
-        compare_listing(&recipe, &got.1, tally);
-    }
-    refused
-}
-
-/// The listing of the lines that were read, in words.
-fn compare_listing(recipe: &Recipe, lines: &[u32; LINES_MAX], tally: &mut Tally) {
-    let mut row = vec![EMPTY; SLOTS];
-    let want = wanted(recipe, &row, Step::word);
-    let told = recipe_translate(recipe.width, recipe.count, lines, &mut row).map(|word| word as usize);
-    let got = Laid { told, row };
-    tally.count(got == want, || {
-        format!(
-            "recipe of {}\n  port     {}\n  reading  {:?}",
-            shown(recipe),
-            got.shown_against(&want),
-            want.told
-        )
+        format!("text \"{}\"\n  port     {got:?}\n  reading  {want:?}", text.escape_ascii())
     });
 }
 
-fn compare_text(text: &[u8], out: &mut [u8; PRINT_MAX], tally: &mut Tally) -> Refused {
+/// The listing in words, into a row with a slot too few, one with just enough and a long one; what the reading tells of each.
+fn compare_listings(text: &[u8], tally: &mut Tally) -> [[usize; 3]; 3] {
+    let recipe = read(text);
+    let made = |slots| recipe.and_then(|recipe| translate(&recipe, slots));
+    let needed = made(STEPS_MAX).map_or(0, |steps| steps.len());
+    [needed.saturating_sub(1), needed, LONGEST].map(|slots| {
+        let mut row = vec![EMPTY; slots];
+        let want = wanted(made(slots), &row, Step::word);
+        let [number, line, count, rest @ ..] = recipe_translate(text, &mut row).map(|word| word as usize);
+        let got = Laid { told: [number, line, count], row };
+        tally.count(got == want && rest == [0; 5], || {
+            let (text, shown) = (text.escape_ascii(), got.shown_against(&want));
+            format!(
+                "text \"{text}\", {slots} slots\n  port     {shown}, then {rest:x?}\n  reading  {:?}",
+                want.told
+            )
+        });
+        want.told
+    })
+}
+
+/// What the reading tells of the listings.
+fn compare_text(text: &[u8], out: &mut [u8; PRINT_MAX], tally: &mut Tally) -> [[usize; 3]; 3] {
     compare_printed(text, out, tally);
-    compare_read(text, tally)
+    compare_read(text, tally);
+    compare_listings(text, tally)
 }
 
 /// The rows of texts and what is printed for them: the port and the reading print it.
@@ -130,59 +109,38 @@ fn compare_rows(tally: &mut Tally) -> usize {
     rows.len()
 }
 
-/// The refusals of texts by number.
-const OF_TEXTS: [usize; 6] = [0, 4, 5, 6, 7, 8];
-
 /// Random texts, as many of each kind. A text longer than the program reads is compared cut and whole: both meet one refusal.
+/// Refusal 9 is that of a row with a slot too few for an accepted text.
 fn compare_texts(count: u64, random: &mut Random, tally: &mut Tally) -> bool {
     let mut out = UNTOUCHED;
     let mut met = [Met::default(); KINDS.len()];
-    // the refused lines: the recipe's first (or the width line), those between, the text's last
-    let mut places = [Met::default(); 3];
+    // no line is refused; or the recipe's first (or the width line), one between, the text's last
+    let mut places = [Met::default(); 4];
     let mut long = 0;
     for at in 0..count {
         let kind = (at % KINDS.len() as u64) as usize;
         let input = KINDS[kind].text(random);
         let text = taken(&input);
-        let refused = compare_text(text, &mut out, tally);
+        let told = compare_text(text, &mut out, tally);
         if text.len() < input.len() {
             let whole = compare_text(&input, &mut out, tally);
-            tally.count(whole == refused, || {
-                format!("a text of {} bytes: {whole:?}, cut {refused:?}", input.len())
-            });
+            tally.count(whole == told, || format!("{} bytes: {whole:?}, cut {told:?}", input.len()));
             long += 1;
         }
-        met[kind].add(refused.number.into());
+        let [[short, ..], _, [number, line, _]] = told;
         let last = text.split_inclusive(|&byte| byte == b'\n').count();
-        let place = if refused.line <= 2 { 0 } else { 1 + usize::from(refused.line == last) };
-        places[place].add(refused.number.into());
+        let place = if line <= 2 { line.min(1) } else { 2 + usize::from(line == last) };
+        for met in [&mut met[kind], &mut places[place]] {
+            met[number] += 1;
+            met[9] += u64::from(short == 9);
+        }
     }
-    let kinds_met = kinds_met(&met, long);
-    places_met(&places) && kinds_met
-}
-
-fn kinds_met(met: &[Met; KINDS.len()], long: u64) -> bool {
-    println!("texts\taccepted\t4\t5\t6\t7\t8");
-    let mut all = Met::default();
-    for (kind, met) in KINDS.iter().zip(met) {
-        met.print(kind.name, &OF_TEXTS);
-        all.0.iter_mut().zip(met.0).for_each(|(sum, count)| *sum += count);
-    }
-    all.print("all", &OF_TEXTS);
-    println!("longer than the program reads\t{long}");
-    all.has("texts", &OF_TEXTS)
-}
-
-fn places_met(places: &[Met; 3]) -> bool {
-    let names = ["the first line", "a line between", "the last line"];
-    let wanted: [&[usize]; 3] = [&[4, 5, 6, 7], &[5, 6, 7, 8], &[5, 6, 7, 8]];
-    println!("refused on\t4\t5\t6\t7\t8");
-    let mut good = true;
-    for at in 0..3 {
-        places[at].print(names[at], &OF_TEXTS[1..]);
-        good &= places[at].has(names[at], wanted[at]);
-    }
-    good
+    println!("longer than the program reads\t{long}\ntexts\taccepted\t4\t5\t6\t7\t8\t9");
+    KINDS.iter().zip(met).for_each(|(kind, met)| _ = are_met(kind.name, &met, &[]));
+    are_met("accepted", &places[0], &[0, 9])
+        & are_met("refused on the first line", &places[1], &[4, 5, 6, 7])
+        & are_met("refused on a line between", &places[2], &[5, 6, 7, 8])
+        & are_met("refused on the last line", &places[3], &[5, 6, 7, 8])
 }
 
 /// What a translation tells (the refusal's number, its line, the steps), and the row that it leaves.
@@ -201,9 +159,8 @@ impl<T: PartialEq + Debug> Laid<T> {
     }
 }
 
-/// The reading's, into such a row; `laid` is what a slot gets of a step.
-fn wanted<T: Copy>(recipe: &Recipe, before: &[T], laid: impl Fn(&Step) -> T) -> Laid<T> {
-    let made = translate(recipe, before.len());
+/// Of what the reading made for such a row; `laid` is what a slot gets of a step.
+fn wanted<T: Copy>(made: Result<Vec<Step>, Refused>, before: &[T], laid: impl Fn(&Step) -> T) -> Laid<T> {
     let [number, line] = made.as_ref().map_or_else(|r| [r.number.into(), r.line], |_| [0, 0]);
     let mut row: Vec<T> = made.unwrap_or_default().iter().map(laid).collect();
     let count = row.len();
@@ -212,18 +169,20 @@ fn wanted<T: Copy>(recipe: &Recipe, before: &[T], laid: impl Fn(&Step) -> T) -> 
 }
 
 /// A recipe translated into a row, and by value; what the reading tells of the first. Document 01 doesn't say what a listing
-/// by value has in its other slots: it must be the same step, `blank`, in all answers.
-fn compare_recipe(recipe: &Recipe, before: &[Step], blank: Step, tally: &mut Tally) -> [usize; 3] {
+/// by value has in its other slots: it must be the same step in all answers.
+fn compare_recipe(recipe: &Recipe, before: &[Step], tally: &mut Tally) -> [usize; 3] {
     let mut row = before.to_vec();
     let told = ported::translate(recipe, &mut row);
-    let (lent, want_lent) = (Laid { told, row }, wanted(recipe, before, Step::clone));
+    let made = |slots| translate(recipe, slots);
+    let (lent, want_lent) = (Laid { told, row }, wanted(made(before.len()), before, Step::clone));
     let (told, array) = ported::translate_array(recipe);
     let row = array.to_vec();
-    let (by_value, want_by_value) = (Laid { told, row }, wanted(recipe, &[blank; SLOTS], Step::clone));
+    let (_, blank) = ported::translate_array(&Recipe::empty(1));
+    let (by_value, want_by_value) =
+        (Laid { told, row }, wanted(made(SLOTS), &[blank[0]; SLOTS], Step::clone));
     tally.count(lent == want_lent && by_value == want_by_value, || {
         format!(
-            "recipe of {}\n  {} slots: {}\n  reading    {:?}\n  by value   {}\n  reading    {:?}",
-            shown(recipe),
+            "{recipe:?}\n  {} slots: {}\n  reading    {:?}\n  by value   {}\n  reading    {:?}",
             before.len(),
             lent.shown_against(&want_lent),
             want_lent.told,
@@ -234,92 +193,96 @@ fn compare_recipe(recipe: &Recipe, before: &[Step], blank: Step, tally: &mut Tal
     want_lent.told
 }
 
-/// A recipe made by hand: `count` lines, all of them `line` but the 18th and the last that there is room for; the slots that it is
-/// translated into; and what comes of it: refusal, its line, steps.
-struct ByHand {
-    width: u8,
-    count: usize,
-    line: Line,
-    one: Line,
-    last: Line,
-    slots: usize,
-    told: [usize; 3],
-}
+/// A recipe made by hand: its width; the number of its lines; what these are, the 18th, and the last that there is room for; the slots
+/// that it is translated into; and what comes of it: refusal, its line, steps.
+type ByHand = (u8, usize, [Line; 3], usize, [usize; 3]);
 
 const fn line(verb: Verb, a: u8, b: u8) -> Line {
     Line { verb, a, b }
 }
 
 const NOT: Line = line(Verb::Not, 0, 0);
-const COPY: Line = line(Verb::Copy, 0, 1);
 const PAST: Line = line(Verb::Neg, 9, 0);
-
-const fn by_hand(width: u8, count: usize, one: Line, last: Line, told: [usize; 3]) -> ByHand {
-    ByHand { width, count, line: NOT, one, last, slots: STEPS_MAX - 1, told }
-}
-
-/// So many copies of four long words, each eight steps.
-const fn copies(count: usize, slots: usize, told: [usize; 3]) -> ByHand {
-    ByHand { width: 4, count, line: COPY, one: COPY, last: COPY, slots, told }
-}
+const COPIES: [Line; 3] = [line(Verb::Copy, 0, 1); 3];
 
 #[rustfmt::skip]
 const BY_HAND: [ByHand; 21] = [
-    by_hand(0, LINES_MAX, NOT, NOT, [4, 1, 0]),
-    by_hand(3, 0, NOT, NOT, [4, 1, 0]),
-    by_hand(255, 99, NOT, NOT, [4, 1, 0]),
+    (0, LINES_MAX, [NOT; 3], SLOTS, [4, 1, 0]),
+    (3, 0, [NOT; 3], SLOTS, [4, 1, 0]),
+    (255, 99, [NOT; 3], SLOTS, [4, 1, 0]),
     // a line too many; a line past the count doesn't count
-    by_hand(1, LINES_MAX + 1, NOT, PAST, [8, 0, 0]),
-    by_hand(1, usize::MAX, NOT, NOT, [8, 0, 0]),
-    by_hand(4, LINES_MAX, NOT, NOT, [0, 0, 4 * LINES_MAX]),
-    by_hand(4, LINES_MAX - 1, NOT, PAST, [0, 0, 4 * (LINES_MAX - 1)]),
+    (1, LINES_MAX + 1, [NOT, NOT, PAST], SLOTS, [8, 0, 0]),
+    (1, usize::MAX, [NOT; 3], SLOTS, [8, 0, 0]),
+    (4, LINES_MAX, [NOT; 3], SLOTS, [0, 0, 4 * LINES_MAX]),
+    (4, LINES_MAX - 1, [NOT, NOT, PAST], SLOTS, [0, 0, 4 * (LINES_MAX - 1)]),
     // the source, the target, the last line; b of a verb with one number
-    by_hand(2, LINES_MAX, line(Verb::Add, 4, 0), PAST, [6, 19, 0]),
-    by_hand(2, LINES_MAX, NOT, line(Verb::Sub, 0, 255), [6, LINES_MAX + 1, 0]),
-    by_hand(2, LINES_MAX, line(Verb::Neg, 3, 255), NOT, [0, 0, 2 * LINES_MAX]),
+    (2, LINES_MAX, [NOT, line(Verb::Add, 4, 0), PAST], SLOTS, [6, 19, 0]),
+    (2, LINES_MAX, [NOT, NOT, line(Verb::Sub, 0, 255)], SLOTS, [6, LINES_MAX + 1, 0]),
+    (2, LINES_MAX, [NOT, line(Verb::Neg, 3, 255), NOT], SLOTS, [0, 0, 2 * LINES_MAX]),
     // copies onto itself, and 6 before 7
-    by_hand(2, LINES_MAX, line(Verb::Copy, 3, 3), PAST, [7, 19, 0]),
-    by_hand(2, LINES_MAX, NOT, line(Verb::Copy, 0, 0), [7, LINES_MAX + 1, 0]),
-    by_hand(2, LINES_MAX, line(Verb::Copy, 4, 4), NOT, [6, 19, 0]),
-    // too few slots, just enough, more
-    copies(LINES_MAX, STEPS_MAX - 1, [9, 0, 0]),
-    copies(LINES_MAX, STEPS_MAX, [0, 0, STEPS_MAX]),
-    copies(LINES_MAX, STEPS_MAX + 1, [0, 0, STEPS_MAX]),
-    copies(LINES_MAX - 1, STEPS_MAX - 9, [9, 0, 0]),
-    copies(LINES_MAX - 1, STEPS_MAX - 8, [0, 0, STEPS_MAX - 8]),
-    copies(1, 7, [9, 0, 0]),
-    copies(1, 0, [9, 0, 0]),
-    copies(0, 0, [0, 0, 0]),
+    (2, LINES_MAX, [NOT, line(Verb::Copy, 3, 3), PAST], SLOTS, [7, 19, 0]),
+    (2, LINES_MAX, [NOT, NOT, line(Verb::Copy, 0, 0)], SLOTS, [7, LINES_MAX + 1, 0]),
+    (2, LINES_MAX, [NOT, line(Verb::Copy, 4, 4), NOT], SLOTS, [6, 19, 0]),
+    // copies of four long words, each eight steps: too few slots, just enough, more
+    (4, LINES_MAX, COPIES, STEPS_MAX - 1, [9, 0, 0]),
+    (4, LINES_MAX, COPIES, STEPS_MAX, [0, 0, STEPS_MAX]),
+    (4, LINES_MAX, COPIES, STEPS_MAX + 1, [0, 0, STEPS_MAX]),
+    (4, LINES_MAX - 1, COPIES, STEPS_MAX - 9, [9, 0, 0]),
+    (4, LINES_MAX - 1, COPIES, STEPS_MAX - 8, [0, 0, STEPS_MAX - 8]),
+    (4, 1, COPIES, 7, [9, 0, 0]),
+    (4, 1, COPIES, 0, [9, 0, 0]),
+    (4, 0, COPIES, 0, [0, 0, 0]),
 ];
 
 /// The recipes of `BY_HAND`, into rows of a step that no recipe has.
 fn compare_by_hand(tally: &mut Tally) {
-    let (_, blank) = ported::translate_array(&Recipe::empty(1));
-    for row in BY_HAND {
-        let mut recipe = Recipe { width: row.width, count: row.count, lines: [row.line; LINES_MAX] };
-        (recipe.lines[17], recipe.lines[LINES_MAX - 1]) = (row.one, row.last);
-        let slots = vec![Step { size: Size::Word, form: Form::Chk(1, 2) }; row.slots];
-        let told = compare_recipe(&recipe, &slots, blank[0], tally);
-        tally.count(told == row.told, || {
-            format!("{}: the reading {told:?}, the row {:?}", shown(&recipe), row.told)
-        });
+    for (width, count, [line, one, last], slots, told) in BY_HAND {
+        let mut recipe = Recipe { width, count, lines: [line; LINES_MAX] };
+        (recipe.lines[17], recipe.lines[LINES_MAX - 1]) = (one, last);
+        let row = vec![Step { size: Size::Word, form: Form::Chk(1, 2) }; slots];
+        let reading = compare_recipe(&recipe, &row, tally);
+        tally.count(reading == told, || format!("{recipe:?}: the reading {reading:?}, the row {told:?}"));
     }
 }
 
+/// Whether a recipe is such a case, by itself and by what the reading tells of it.
+type Case = fn(&Recipe, [usize; 3]) -> bool;
+
+/// What must be met in recipes made by hand. Most of it no text can say.
+const CASES: [(&str, Case); 11] = [
+    ("accepted", |_, told| told[0] == 0),
+    ("a number above 9 that isn't taken", |recipe, told| {
+        told[0] == 0 && recipe.lines[..recipe.count].iter().any(|line| line.b > 9)
+    }),
+    ("width 0", |recipe, told| told[0] == 4 && recipe.width == 0),
+    ("width 3", |recipe, told| told[0] == 4 && recipe.width == 3),
+    ("width 255", |recipe, told| told[0] == 4 && recipe.width == 255),
+    ("a line too many", |recipe, told| told[0] == 8 && recipe.count == LINES_MAX + 1),
+    ("more lines", |recipe, told| told[0] == 8 && recipe.count > LINES_MAX + 1),
+    ("a digit past the numbers", |recipe, [number, line, _]| {
+        number == 6 && recipe.lines[line - 2].named().any(|n| (8 / recipe.width..10).contains(&n))
+    }),
+    ("a number above 9", |recipe, [number, line, _]| {
+        number == 6 && recipe.lines[line - 2].named().any(|n| n > 9)
+    }),
+    ("a copy onto itself", |_, told| told[0] == 7),
+    ("too few slots", |_, told| told[0] == 9),
+];
+
 /// Recipes made by hand, at random.
 fn compare_recipes(count: u64, random: &mut Random, tally: &mut Tally) -> bool {
-    const NUMBERS: [usize; 6] = [0, 4, 6, 7, 8, 9];
-    let (_, blank) = ported::translate_array(&Recipe::empty(1));
-    let mut met = Met::default();
+    let mut met = [0; CASES.len()];
     for _ in 0..count {
         let recipe = texts::recipe(random);
         let needed = translate(&recipe, STEPS_MAX).map_or(0, |steps| steps.len());
         let row = texts::row(random, needed);
-        met.add(compare_recipe(&recipe, &row, blank[0], tally)[0]);
+        let told = compare_recipe(&recipe, &row, tally);
+        met.iter_mut().zip(CASES).for_each(|(sum, (_, is))| *sum += u64::from(is(&recipe, told)));
     }
-    println!("recipes by hand\taccepted\t4\t6\t7\t8\t9");
-    met.print("all", &NUMBERS);
-    met.has("recipes by hand", &NUMBERS)
+    for ((name, _), sum) in CASES.iter().zip(met) {
+        println!("{}by hand: {name}\t{sum}", if sum == 0 { "NEVER MET: " } else { "" });
+    }
+    !met.contains(&0)
 }
 
 fn agree(texts: u64, mut random: Random) -> ExitCode {

@@ -55,11 +55,14 @@ impl Laps {
         registers(sum, &state)
     }
 
-    /// By the C function, of the steps in words.
+    /// By the C function, of the steps in words. It tells two zeros more; anything else there spoils the digest.
     fn in_words(self) -> u64 {
         let (listing, mut state) = (listing_of(self.kinds, self.seed), FIRST);
         let words: Vec<u64> = listing[..self.count].iter().map(Step::word).collect();
-        let sum = self.summed(|| listing_run(&words, &mut state, self.start, self.budget));
+        let sum = self.summed(|| match listing_run(&words, &mut state, self.start, self.budget) {
+            [told @ .., 0, 0] => told,
+            _ => [u64::MAX; 6],
+        });
         registers(sum, &state)
     }
 
