@@ -62,15 +62,17 @@ fn compare_read(text: &[u8], tally: &mut Tally) {
     });
 }
 
-/// The listing in words, into a row with a slot too few, one with just enough and a long one; what the reading tells of each.
+/// The listing in words, into a row with a slot too few, one with just enough and a long one; nothing is written behind it. What the
+/// reading tells of each.
 fn compare_listings(text: &[u8], tally: &mut Tally) -> [[usize; 3]; 3] {
     let recipe = read(text);
     let made = |slots| recipe.and_then(|recipe| translate(&recipe, slots));
     let needed = made(STEPS_MAX).map_or(0, |steps| steps.len());
     [needed.saturating_sub(1), needed, LONGEST].map(|slots| {
-        let mut row = vec![EMPTY; slots];
+        let mut row = vec![EMPTY; LONGEST];
         let want = wanted(made(slots), &row, Step::word);
-        let [number, line, count, rest @ ..] = recipe_translate(text, &mut row).map(|word| word as usize);
+        let [number, line, count, rest @ ..] =
+            recipe_translate(text, &mut row[..slots]).map(|word| word as usize);
         let got = Laid { told: [number, line, count], row };
         tally.count(got == want && rest == [0; 5], || {
             let (text, shown) = (text.escape_ascii(), got.shown_against(&want));
