@@ -44,8 +44,9 @@ const NAMES: [u8; 120] = *b"\
 fn operation_name(form: Form) -> [u8; 4]
     ensures { λ r. ⌜ before 32 r ≡ operationText form ⌝ }
 {
+    let names = NAMES;
     let at = step::forms::number(operation_of(form)) as usize * 4;
-    [NAMES[at], NAMES[at + 1], NAMES[at + 2], NAMES[at + 3]]
+    [names[at], names[at + 1], names[at + 2], names[at + 3]]
 }
 
 fn size_name(size: Size) -> [u8; 4]
