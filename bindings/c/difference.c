@@ -99,7 +99,7 @@ static int tell(struct counter earlier, struct counter later) {
     char text[] = "width\t1\nsub\t0\t1\n";
     uint32_t d[8] = {0}, a[8] = {0};
     uint8_t flags = 0;
-    uint64_t told[5] = {0};
+    uint64_t told[GRO_TOLD] = {0};
     unsigned width = earlier.width;
     text[6] = (char)('0' + width);
     memcpy(d, earlier.words, width * sizeof *d);

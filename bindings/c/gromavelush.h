@@ -32,6 +32,7 @@ extern "C" {
 #define GRO_STEPS 256  /* the most steps that a recipe has */
 #define GRO_TEXT 1024  /* the bytes that the programs read of a text; the library takes any length */
 #define GRO_ROOM 20480 /* the bytes that any printed listing has room in */
+#define GRO_TOLD 8     /* the numbers that a call tells: those without a meaning are 0 */
 
 /* Flags in one byte: X 16, N 8, Z 4, V 2, C 1. Higher bits don't count, and are 0 in answers. */
 enum gro_flag { GRO_X = 16, GRO_N = 8, GRO_Z = 4, GRO_V = 2, GRO_C = 1 };
@@ -49,9 +50,9 @@ enum gro_operation {
 /*
  * Refusal numbers. Of operations and steps: 1 a step's small number is out of its range (1 to 8, for a bit 0 to 31), or ROXL or ROXR is
  * called with a count above 63; 2 the operation hasn't that size, or there is no such operation, size or step; 3 a step's register
- * number is above 7. A step is tested for 3, 2, 1. Of recipes: 4 the width line, or the width; 5 unknown verb, wrong number of fields, a
- * field that isn't one digit, no byte 10; 6 no such number at this width; 7 copy of a number onto itself; 8 more than GRO_LINES lines;
- * 9 too few slots. Of runs: 10 the start place is past the end.
+ * number is above 7. A step is tested for 3, 2, 1. Of recipes: 4 the width line; 5 unknown verb, wrong number of fields, a field that
+ * isn't one digit, no byte 10; 6 no such number at this width; 7 copy of a number onto itself; 8 more than GRO_LINES lines; 9 too few
+ * slots. Of runs: 10 the start place is past the end. Any number but 0 is a refusal: a later library may give others.
  */
 
 /*
@@ -64,9 +65,10 @@ uint64_t alu_call(uint8_t operation, uint8_t size, uint32_t src, uint32_t dst, u
 
 /*
  * A step is a word of 64 bits: byte 0 (the lowest) the operation, 1 the size, 2 the source's kind, 3 the source's number, 4 the
- * destination's register number; the bytes above don't count, nor byte 3 with kind 0. The destination of ADDA, SUBA, CMPA, GRO_ADDQA
- * and GRO_SUBQA is an address register, any other a data register. A word that names no step of document 01's forms is refused with 2
- * where it is run. GRO_STEP takes the low 8 bits of each number: test one that may be above 255 before.
+ * destination's register number. Byte 3 doesn't count with kind 0. Bytes 5 to 7 are reserved: write 0 there. Today they don't count
+ * where a step is run or printed; a later library will read them. The destination of ADDA, SUBA, CMPA, GRO_ADDQA and GRO_SUBQA is an
+ * address register, any other a data register. A word that names no step of document 01's forms is refused with 2 where it is run.
+ * GRO_STEP takes the low 8 bits of each number, and has 0 in the reserved bytes: test a number that may be above 255 before.
  */
 enum gro_source { GRO_NONE = 0, GRO_SMALL = 1, GRO_DATA = 2, GRO_ADDRESS = 3 };
 #define GRO_STEP(operation, size, kind, source, destination)                                                              \
@@ -81,7 +83,7 @@ enum gro_source { GRO_NONE = 0, GRO_SMALL = 1, GRO_DATA = 2, GRO_ADDRESS = 3 };
  */
 enum gro_end { GRO_FINISHED = 0, GRO_BUDGET = 1, GRO_TRAPPED = 2, GRO_REFUSED = 3 };
 void listing_run(const uint64_t *listing, size_t length, uint32_t d[8], uint32_t a[8], uint8_t *flags, size_t start, uint32_t budget,
-                 uint64_t told[6]);
+                 uint64_t told[GRO_TOLD]);
 
 /*
  * Prints a listing as the program recipe does, with this width in the first line. A listing longer than GRO_SLOTS is cut: it ends at
@@ -93,27 +95,14 @@ void listing_run(const uint64_t *listing, size_t length, uint32_t d[8], uint32_t
 size_t listing_print(uint8_t width, const uint64_t *listing, size_t length, uint8_t *out, size_t room);
 
 /*
- * A line of a recipe is a word of 32 bits: byte 0 the verb, 1 and 2 the numbers a and b; byte 3 doesn't count. Verbs that take one
- * number have it in a, and b doesn't count. GRO_LINE takes the low 8 bits of each number: test one that may be above 255 before.
+ * A recipe is a text: a line of `width` and 1, 2 or 4, then at most GRO_LINES lines of a verb and its numbers, one digit each: clear a,
+ * copy a b, add a b, sub a b, neg a, not a, halve a, down a, up a. One tab parts the fields, and byte 10 ends each line.
+ *
+ * Reads a text and translates it into a listing of length slots. told: 0 the refusal number (0: none), 1 its text line, counted from 1
+ * (0: none, and of 9), 2 the number of steps. The slots past the steps stay; a refusal leaves all. A sound recipe of more steps than
+ * there are slots is refused with 9; GRO_STEPS slots are enough for any.
  */
-enum gro_verb {
-    GRO_VERB_CLEAR, GRO_VERB_COPY, GRO_VERB_ADD, GRO_VERB_SUB, GRO_VERB_NEG, GRO_VERB_NOT, GRO_VERB_HALVE, GRO_VERB_DOWN, GRO_VERB_UP
-};
-#define GRO_LINE(verb, a, b) ((uint32_t)(uint8_t)(verb) | (uint32_t)(uint8_t)(a) << 8 | (uint32_t)(uint8_t)(b) << 16)
-
-/*
- * Reads a recipe text. lines gets its lines, `clear 0` behind them. told: 0 the refusal number (0: none), 1 its text line (0: none), 2
- * the width, 3 the number of lines. A refused text has width 1 and no lines.
- */
-void recipe_read(const uint8_t *text, size_t length, uint32_t lines[GRO_LINES], uint64_t told[4]);
-
-/*
- * Translates the first count of the lines into a listing of length slots. told: 0 the refusal number (0: none), 1 its text line
- * (1 for the width, k + 2 for line k counted from 0, and 0 for 8, 9 and none), 2 the number of steps. The slots past the steps stay; a
- * refusal leaves all. A count above GRO_LINES is refused with 8, an unknown verb with 5. GRO_STEPS slots are enough for any
- * recipe.
- */
-void recipe_translate(uint8_t width, size_t count, const uint32_t lines[GRO_LINES], uint64_t *listing, size_t length, uint64_t told[3]);
+void recipe_translate(const uint8_t *text, size_t text_length, uint64_t *listing, size_t length, uint64_t told[GRO_TOLD]);
 
 /* What the program recipe prints for a text: the listing, or `refused`, number and line. Answers as listing_print does. */
 size_t recipe_answer(const uint8_t *text, size_t length, uint8_t *out, size_t room);
@@ -128,7 +117,7 @@ size_t recipe_answer(const uint8_t *text, size_t length, uint8_t *out, size_t ro
  * After add, sub and neg, and with no line, all five flags are promised, else X alone; a flag that is not promised is left 0. A refused
  * text leaves d, a and the five flags, and tells all five promised, 0 steps and 0 clocks.
  */
-void recipe_run(const uint8_t *text, size_t length, uint32_t d[8], uint32_t a[8], uint8_t *flags, uint64_t told[5]);
+void recipe_run(const uint8_t *text, size_t length, uint32_t d[8], uint32_t a[8], uint8_t *flags, uint64_t told[GRO_TOLD]);
 
 #ifdef __cplusplus
 }

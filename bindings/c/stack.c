@@ -14,8 +14,8 @@ enum { SAID = 16384, STACK = 1 << 18, PAINT = 0x5A, MOST = GRO_SLOTS + 44 };
 
 static uint8_t stack[STACK], out[GRO_ROOM];
 static ucontext_t here, there;
-static uint64_t listing[MOST], told[6];
-static uint32_t lines[GRO_LINES], d[8], a[8];
+static uint64_t listing[MOST], told[GRO_TOLD];
+static uint32_t d[8], a[8];
 static uint8_t flags;
 static char text[GRO_TEXT];
 static size_t length;
@@ -23,8 +23,7 @@ static unsigned operation, size;
 
 static void nothing(void) {}
 static void call_alu(void) { told[0] = alu_call((uint8_t)operation, (uint8_t)size, 0x81234567, 0x89ABCDEF, 31); }
-static void call_read(void) { recipe_read((const uint8_t *)text, length, lines, told); }
-static void call_translate(void) { recipe_translate((uint8_t)size, GRO_LINES, lines, listing, MOST, told); }
+static void call_translate(void) { recipe_translate((const uint8_t *)text, length, listing, MOST, told); }
 static void call_answer(void) { told[0] = recipe_answer((const uint8_t *)text, length, out, GRO_ROOM); }
 static void call_run_recipe(void) { recipe_run((const uint8_t *)text, length, d, a, &flags, told); }
 static void call_run(void) { listing_run(listing, MOST, d, a, &flags, 0, 1000, told); }
@@ -70,7 +69,6 @@ static size_t most_of_recipes(void (*call)(void)) {
             for (count = 0; count < GRO_LINES + 2; count++) {
                 size_t now, at = (size_t)sprintf(text, "width\t%u\n", size);
                 for (i = 0; i < count; i++) at += (size_t)sprintf(text + at, "%s\n", verbs[verb]);
-                for (i = 0; i < GRO_LINES; i++) lines[i] = GRO_LINE(verb, 0, 1);
                 length = at;
                 now = used(call);
                 if (now > most) most = now;
@@ -91,7 +89,6 @@ int main(int count, char **words) {
     good = show("alu_call", most_of_steps(call_alu) - least);
     good &= show("listing_run", most_of_steps(call_run) - least);
     good &= show("listing_print", most_of_steps(call_print) - least);
-    good &= show("recipe_read", most_of_recipes(call_read) - least);
     good &= show("recipe_translate", most_of_recipes(call_translate) - least);
     good &= show("recipe_answer", most_of_recipes(call_answer) - least);
     good &= show("recipe_run", most_of_recipes(call_run_recipe) - least);

@@ -8,11 +8,20 @@
 #include <stdlib.h>
 #include <string.h>
 
-enum { GUARD = 64, MARK = 0xA5, MOST = GRO_SLOTS + 44 };
+enum { GUARD = 64, MARK = 0xA5, MOST = GRO_SLOTS + 44, REGISTERS = 8 };
 
 static const char example[] = "width\t2\nadd\t0\t1\nneg\t1\n";
 static const char printed[] =
     "width\t2\t4\n0\tADD\tL\tD0\tD2\n1\tADDX\tL\tD1\tD3\n2\tNEG\tL\t-\tD2\n3\tNEGX\tL\t-\tD3\nclocks\t20\n";
+
+/* The example's steps: two of its first line, two of its second. */
+enum { STEPS = 4 };
+static const uint64_t steps[STEPS] = {
+    GRO_STEP(GRO_ADD, GRO_LONG, GRO_DATA, 0, 2),
+    GRO_STEP(GRO_ADDX, GRO_LONG, GRO_DATA, 1, 3),
+    GRO_STEP(GRO_NEG, GRO_LONG, GRO_NONE, 0, 2),
+    GRO_STEP(GRO_NEGX, GRO_LONG, GRO_NONE, 0, 3),
+};
 
 static unsigned long checks, failed;
 
@@ -48,7 +57,26 @@ static void done(void *of, size_t bytes, const char *what, unsigned long at) {
     free(bytes_of - GUARD);
 }
 
-static const uint8_t *bytes(const char *text) { return (const uint8_t *)text; }
+/* A row of those bytes. */
+static void *copied(const void *of, size_t bytes) { return memcpy(row(bytes), of, bytes); }
+
+/* It is lent to be read: it stays, and so do its guards. The row goes. */
+static void kept(void *copy, const void *of, size_t bytes, const char *what, unsigned long at) {
+    check(memcmp(copy, of, bytes) == 0, what, at);
+    done(copy, bytes, what, at);
+}
+
+/* What a call tells: GRO_TOLD numbers, all ones before it, between guards. */
+static uint64_t *told_row(void) {
+    size_t bytes = GRO_TOLD * sizeof(uint64_t);
+    return (uint64_t *)memset(row(bytes), 0xFF, bytes);
+}
+
+/* All of it is as it should be: in should the places without a meaning are 0. The row goes. */
+static void tells(uint64_t *told, const uint64_t *should, const char *what, unsigned long at) {
+    check(memcmp(told, should, GRO_TOLD * sizeof *told) == 0, what, at);
+    done(told, GRO_TOLD * sizeof *told, "around what is told", at);
+}
 
 /* ---- operations */
 
@@ -71,97 +99,91 @@ static void test_operations(void) {
     }
 }
 
-/* ---- reading and translating */
+/* ---- translating */
 
-static void read_one(const char *text, size_t length, uint64_t number, uint64_t line, uint64_t width, uint64_t count) {
-    uint8_t *copy = (uint8_t *)row(length);
-    uint32_t *lines = (uint32_t *)row(GRO_LINES * sizeof *lines);
-    uint64_t *told = (uint64_t *)row(4 * sizeof *told);
-    memcpy(copy, text, length);
-    recipe_read(copy, length, lines, told);
-    check(told[0] == number && told[1] == line && told[2] == width && told[3] == count, "what is read", length);
-    check(memcmp(copy, text, length) == 0, "the text stays", length);
-    done(copy, length, "around a text", length);
-    done(lines, GRO_LINES * sizeof *lines, "around lines", length);
-    done(told, 4 * sizeof *told, "around what is told", length);
-}
-
-static void test_reading(void) {
-    uint32_t lines[GRO_LINES] = {0};
-    uint64_t told[4] = {0};
-    size_t length;
-    unsigned i, rest = 0;
-    for (length = 0; length < sizeof example; length++) {
-        int whole = length == 8 || length == 16 || length == 22;
-        uint64_t at = length < 8 ? 1 : length < 16 ? 2 : 3;
-        if (whole) read_one(example, length, 0, 0, 2, length == 8 ? 0 : length == 16 ? 1 : 2);
-        else read_one(example, length, length < 8 ? 4 : 5, at, 1, 0);
-    }
-    recipe_read(bytes(example), sizeof example - 1, lines, told);
-    for (i = 2; i < GRO_LINES; i++) rest |= lines[i];
-    check(lines[0] == GRO_LINE(GRO_VERB_ADD, 0, 1) && lines[1] == GRO_LINE(GRO_VERB_NEG, 1, 0) && rest == 0, "lines", 0);
-}
-
-static void translate_one(uint8_t width, size_t count, const uint32_t *lines, size_t slots, uint64_t number, uint64_t line,
-                          uint64_t steps) {
-    uint64_t *listing = (uint64_t *)row(slots * sizeof *listing), *told = (uint64_t *)row(3 * sizeof *told);
-    uint32_t *copy = (uint32_t *)row(GRO_LINES * sizeof *copy);
-    memcpy(copy, lines, GRO_LINES * sizeof *copy);
-    recipe_translate(width, count, copy, listing, slots, told);
-    check(told[0] == number && told[1] == line && told[2] == steps, "what is translated", (unsigned long)slots);
-    check(marked(listing + steps, (slots - (size_t)steps) * sizeof *listing), "slots past the steps", (unsigned long)slots);
-    check(memcmp(copy, lines, GRO_LINES * sizeof *copy) == 0, "the lines stay", (unsigned long)slots);
+/* A text into so many slots: it is refused with a number on a line, or those words are laid. */
+static void translate_one(const char *text, size_t length, size_t slots, uint64_t number, uint64_t line, const uint64_t *words,
+                          size_t many) {
+    const uint64_t should[GRO_TOLD] = {number, line, many};
+    uint64_t *listing = (uint64_t *)row(slots * sizeof *listing), *told = told_row();
+    uint8_t *copy = (uint8_t *)copied(text, length);
+    recipe_translate(copy, length, listing, slots, told);
+    tells(told, should, "what is told of a translation", (unsigned long)slots);
+    check(memcmp(listing, words, many * sizeof *words) == 0, "the steps", (unsigned long)slots);
+    check(marked(listing + many, (slots - many) * sizeof *listing), "slots past the steps", (unsigned long)slots);
     done(listing, slots * sizeof *listing, "around a listing", (unsigned long)slots);
-    done(told, 3 * sizeof *told, "around what is told", (unsigned long)slots);
-    done(copy, GRO_LINES * sizeof *copy, "around lines", (unsigned long)slots);
+    kept(copy, text, length, "a text", (unsigned long)length);
+}
+
+/* Whatever slots there are. */
+static void refuse_one(const char *text, uint64_t number, uint64_t line) {
+    translate_one(text, strlen(text), 0, number, line, steps, 0);
+    translate_one(text, strlen(text), MOST, number, line, steps, 0);
+}
+
+/* A recipe of copies at width 4, and its steps, as many as GRO_STEPS where it has GRO_LINES lines. */
+static size_t copies(char *text, uint64_t *words, size_t lines) {
+    size_t at = (size_t)sprintf(text, "width\t4\n"), many = 0, i;
+    for (i = 0; i < lines; i++) {
+        unsigned k;
+        at += (size_t)sprintf(text + at, "copy\t0\t1\n");
+        for (k = 0; k < 4 && many < GRO_STEPS; k++) {
+            words[many++] = GRO_STEP(GRO_CLR, GRO_LONG, GRO_NONE, 0, 4 + k);
+            words[many++] = GRO_STEP(GRO_ADD, GRO_LONG, GRO_DATA, k, 4 + k);
+        }
+    }
+    return many;
 }
 
 static void test_translating(void) {
-    uint32_t lines[GRO_LINES] = {GRO_LINE(GRO_VERB_ADD, 0, 1), GRO_LINE(GRO_VERB_NEG, 1, 255)}, copies[GRO_LINES];
-    size_t slots;
-    unsigned i;
-    for (i = 0; i < GRO_LINES; i++) copies[i] = GRO_LINE(GRO_VERB_COPY, 0, 1) | 0xFF000000;
-    for (slots = 0; slots <= MOST; slots++) {
-        translate_one(2, 2, lines, slots, slots < 4 ? 9 : 0, 0, slots < 4 ? 0 : 4);
-        translate_one(4, GRO_LINES, copies, slots, slots < GRO_STEPS ? 9 : 0, 0, slots < GRO_STEPS ? 0 : GRO_STEPS);
+    static char text[2 * GRO_TEXT];
+    static uint64_t words[GRO_STEPS];
+    size_t length, slots;
+    for (length = 0; length < sizeof example; length++) {
+        int whole = length == 8 || length == 16 || length == 22;
+        if (whole) translate_one(example, length, MOST, 0, 0, steps, length == 8 ? 0 : length == 16 ? 2 : STEPS);
+        else translate_one(example, length, MOST, length < 8 ? 4 : 5, length < 8 ? 1 : length < 16 ? 2 : 3, steps, 0);
     }
-    translate_one(3, 2, lines, MOST, 4, 1, 0);
-    translate_one(2, GRO_LINES + 1, lines, MOST, 8, 0, 0);
-    translate_one(2, SIZE_MAX, lines, MOST, 8, 0, 0);
-    lines[1] = GRO_LINE(GRO_VERB_UP + 1, 0, 0);
-    translate_one(2, 2, lines, MOST, 5, 3, 0);
-    lines[1] = GRO_LINE(GRO_VERB_UP, 4, 0);
-    translate_one(2, 2, lines, MOST, 6, 3, 0);
-    lines[1] = GRO_LINE(GRO_VERB_COPY, 3, 3);
-    translate_one(2, 2, lines, MOST, 7, 3, 0);
-    translate_one(2, 1, lines, MOST, 0, 0, 2);
+    check(copies(text, words, GRO_LINES) == GRO_STEPS, "a recipe of as many steps as there may be", 0);
+    for (slots = 0; slots <= MOST; slots++) {
+        translate_one(example, sizeof example - 1, slots, slots < STEPS ? 9 : 0, 0, steps, slots < STEPS ? 0 : STEPS);
+        translate_one(text, strlen(text), slots, slots < GRO_STEPS ? 9 : 0, 0, words, slots < GRO_STEPS ? 0 : GRO_STEPS);
+    }
+    copies(text, words, GRO_LINES + 1);
+    refuse_one(text, 8, GRO_LINES + 2);
+    copies(text, words, GRO_TEXT / 8);
+    refuse_one(text, 8, GRO_LINES + 2);
+    refuse_one("width\t3\nadd\t0\t1\n", 4, 1);
+    refuse_one("width\t12\nadd\t0\t1\n", 4, 1);
+    refuse_one("width\t2\nadd\t0\t1\nswap\t0\n", 5, 3);
+    refuse_one("width\t2\nadd\t0\t1\nup\t10\n", 5, 3);
+    refuse_one("width\t2\nadd\t0\t1\nup\t4\n", 6, 3);
+    refuse_one("width\t2\nadd\t0\t1\ncopy\t3\t3\n", 7, 3);
 }
 
 /* ---- runs */
 
 static void run_one(const uint64_t *listing, size_t length, size_t start, uint32_t budget, const uint64_t *should, uint32_t d2, unsigned x) {
-    uint64_t *copy = (uint64_t *)row(length * sizeof *copy), *told = (uint64_t *)row(6 * sizeof *told);
-    uint32_t *d = (uint32_t *)row(8 * sizeof *d), *a = (uint32_t *)row(8 * sizeof *a);
+    uint64_t *copy = (uint64_t *)copied(listing, length * sizeof *copy), *told = told_row();
+    uint32_t *d = (uint32_t *)row(REGISTERS * sizeof *d), *a = (uint32_t *)row(REGISTERS * sizeof *a);
     uint8_t *flags = (uint8_t *)row(1);
     unsigned i;
-    memcpy(copy, listing, length * sizeof *copy);
-    for (i = 0; i < 8; i++) d[i] = a[i] = i == 0 ? 1 : i == 2 ? 0xFFFFFFFF : 0;
+    for (i = 0; i < REGISTERS; i++) d[i] = a[i] = i == 0 ? 1 : i == 2 ? 0xFFFFFFFF : 0;
     *flags = 0xE0;
     listing_run(copy, length, d, a, flags, start, budget, told);
-    check(memcmp(told, should, 6 * sizeof *told) == 0, "what is told of a run", budget);
+    tells(told, should, "what is told of a run", budget);
     check(d[2] == d2 && a[2] == 0xFFFFFFFF && *flags >> 4 == x, "the state after a run", budget);
-    done(copy, length * sizeof *copy, "around a listing", budget);
-    done(told, 6 * sizeof *told, "around what is told", budget);
-    done(d, 8 * sizeof *d, "around the data registers", budget);
-    done(a, 8 * sizeof *a, "around the address registers", budget);
+    kept(copy, listing, length * sizeof *copy, "a listing", budget);
+    done(d, REGISTERS * sizeof *d, "around the data registers", budget);
+    done(a, REGISTERS * sizeof *a, "around the address registers", budget);
     done(flags, 1, "around the flags", budget);
 }
 
 static void test_runs(void) {
     uint64_t listing[MOST] = {GRO_STEP(GRO_ADD, GRO_LONG, GRO_DATA, 0, 2), GRO_STEP(GRO_CHK, GRO_WORD, GRO_DATA, 3, 0)};
-    const uint64_t budget[6] = {GRO_BUDGET, 0, 0, 1, 1, 4}, trapped[6] = {GRO_TRAPPED, 1, 1, 2, 2, 12};
-    const uint64_t none[6] = {GRO_BUDGET, 0, 0, 0, 0, 0}, past[6] = {GRO_REFUSED, 10, GRO_SLOTS + 1, GRO_SLOTS + 1, 0, 0};
-    const uint64_t refused[6] = {GRO_REFUSED, 2, GRO_SLOTS - 1, GRO_SLOTS - 1, 0, 0}, end[6] = {GRO_FINISHED, 0, 0, GRO_SLOTS, 0, 0};
+    const uint64_t budget[GRO_TOLD] = {GRO_BUDGET, 0, 0, 1, 1, 4}, trapped[GRO_TOLD] = {GRO_TRAPPED, 1, 1, 2, 2, 12};
+    const uint64_t none[GRO_TOLD] = {GRO_BUDGET}, past[GRO_TOLD] = {GRO_REFUSED, 10, GRO_SLOTS + 1, GRO_SLOTS + 1};
+    const uint64_t refused[GRO_TOLD] = {GRO_REFUSED, 2, GRO_SLOTS - 1, GRO_SLOTS - 1}, end[GRO_TOLD] = {GRO_FINISHED, 0, 0, GRO_SLOTS};
     listing[GRO_SLOTS - 1] = GRO_STEP(GRO_CLR, GRO_LONG, GRO_SMALL, 1, 2);
     run_one(listing, 2, 0, 0, none, 0xFFFFFFFF, 0);
     run_one(listing, 2, 0, 1, budget, 0, 1);
@@ -174,16 +196,16 @@ static void test_runs(void) {
 /* ---- printing */
 
 /* Into so much room: as many bytes as there is room for, and no other byte touched. */
-static void print_one(const char *text, size_t room) {
+static void print_one(size_t room) {
     size_t length = strlen(printed), most = room < length ? room : length, wrote, answered;
-    uint8_t *out = (uint8_t *)row(room), *again = (uint8_t *)row(room);
-    uint64_t listing[4] = {0}, told[3] = {0};
-    uint32_t lines[GRO_LINES] = {GRO_LINE(GRO_VERB_ADD, 0, 1), GRO_LINE(GRO_VERB_NEG, 1, 0)};
-    recipe_translate(2, 2, lines, listing, 4, told);
-    wrote = listing_print(2, listing, 4, out, room);
-    answered = recipe_answer(bytes(text), strlen(text), again, room);
+    uint8_t *out = (uint8_t *)row(room), *again = (uint8_t *)row(room), *text = (uint8_t *)copied(example, sizeof example - 1);
+    uint64_t *listing = (uint64_t *)copied(steps, sizeof steps);
+    wrote = listing_print(2, listing, STEPS, out, room);
+    answered = recipe_answer(text, sizeof example - 1, again, room);
     check(wrote == most && memcmp(out, printed, most) == 0 && marked(out + most, room - most), "what is printed", (unsigned long)room);
     check(answered == most && memcmp(out, again, room) == 0, "what is answered", (unsigned long)room);
+    kept(listing, steps, sizeof steps, "a listing", (unsigned long)room);
+    kept(text, example, sizeof example - 1, "a text", (unsigned long)room);
     done(out, room, "around what is printed", (unsigned long)room);
     done(again, room, "around what is answered", (unsigned long)room);
 }
@@ -193,7 +215,7 @@ static void test_printing(void) {
     uint8_t *out = (uint8_t *)row(GRO_ROOM);
     size_t room, wrote;
     unsigned i;
-    for (room = 0; room <= sizeof printed + 8; room++) print_one(example, room);
+    for (room = 0; room <= sizeof printed + 8; room++) print_one(room);
     for (i = 0; i < MOST; i++) longest[i] = GRO_STEP(GRO_ADDA, GRO_LONG, GRO_ADDRESS, 255, 255) | (uint64_t)0xABCDEF << 40;
     wrote = listing_print(255, longest, MOST, out, GRO_ROOM);
     check(wrote < GRO_ROOM && memcmp(out + wrote - 9, "clocks\t0\n", 9) == 0, "room for any listing", (unsigned long)wrote);
@@ -204,23 +226,23 @@ static void test_printing(void) {
 /* ---- recipes on a state */
 
 static void run_recipe_one(const char *text, const uint64_t *should, uint32_t d2, uint32_t d3, unsigned flags_after) {
-    uint32_t *d = (uint32_t *)row(8 * sizeof *d), *a = (uint32_t *)row(8 * sizeof *a);
-    uint64_t *told = (uint64_t *)row(5 * sizeof *told);
-    uint8_t *flags = (uint8_t *)row(1);
+    uint32_t *d = (uint32_t *)row(REGISTERS * sizeof *d), *a = (uint32_t *)row(REGISTERS * sizeof *a);
+    uint64_t *told = told_row();
+    uint8_t *flags = (uint8_t *)row(1), *copy = (uint8_t *)copied(text, strlen(text));
     unsigned i;
-    for (i = 0; i < 8; i++) d[i] = a[i] = i == 0 ? 1 : i == 2 ? 0xFFFFFFFF : 0;
+    for (i = 0; i < REGISTERS; i++) d[i] = a[i] = i == 0 ? 1 : i == 2 ? 0xFFFFFFFF : 0;
     *flags = 0xFF;
-    recipe_run(bytes(text), strlen(text), d, a, flags, told);
-    check(memcmp(told, should, 5 * sizeof *told) == 0, "what is told of a recipe", d2);
+    recipe_run(copy, strlen(text), d, a, flags, told);
+    tells(told, should, "what is told of a recipe", d2);
     check(d[0] == 1 && d[2] == d2 && d[3] == d3 && a[2] == 0xFFFFFFFF && *flags == flags_after, "the state after a recipe", *flags);
-    done(d, 8 * sizeof *d, "around the data registers", d2);
-    done(a, 8 * sizeof *a, "around the address registers", d2);
-    done(told, 5 * sizeof *told, "around what is told", d2);
+    kept(copy, text, strlen(text), "a text", d2);
+    done(d, REGISTERS * sizeof *d, "around the data registers", d2);
+    done(a, REGISTERS * sizeof *a, "around the address registers", d2);
     done(flags, 1, "around the flags", d2);
 }
 
 static void test_recipes(void) {
-    const uint64_t sum_12[5] = {0, 0, 31, 4, 20}, refused[5] = {6, 2, 31, 0, 0}, open[5] = {0, 0, 16, 2, 20};
+    const uint64_t sum_12[GRO_TOLD] = {0, 0, 31, 4, 20}, refused[GRO_TOLD] = {6, 2, 31, 0, 0}, open[GRO_TOLD] = {0, 0, 16, 2, 20};
     run_recipe_one(example, sum_12, 0, 0xFFFFFFFF, GRO_X | GRO_N | GRO_C);
     run_recipe_one("width\t4\nadd\t0\t2\n", refused, 0xFFFFFFFF, 0, 31);
     run_recipe_one("width\t2\nup\t1\n", open, 0xFFFFFFFE, 1, 0);
@@ -228,7 +250,6 @@ static void test_recipes(void) {
 
 int main(void) {
     test_operations();
-    test_reading();
     test_translating();
     test_runs();
     test_printing();

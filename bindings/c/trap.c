@@ -16,7 +16,7 @@ static const uint64_t listing[STEPS] = {
 static size_t go(size_t place, uint32_t budget, uint32_t d[8], uint32_t a[8], uint8_t *flags) {
     static const char *const ends[] = {"Finished", "Budget", "Trapped", "Refused"};
     static const char *const classes[] = {"", " Over", " Short", " Below"};
-    uint64_t told[6] = {0};
+    uint64_t told[GRO_TOLD] = {0};
     listing_run(listing, STEPS, d, a, flags, place, budget, told);
     printf("%s%s", ends[told[0]], told[0] == GRO_TRAPPED ? classes[told[1]] : "");
     if (told[0] == GRO_TRAPPED) printf(" at place %u", (unsigned)told[2]);
