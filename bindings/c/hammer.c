@@ -1,8 +1,9 @@
 /*
  * hammer [COUNT] [SEED]: random and damaged input for every function, each row in memory of just its size, so that a sanitizer or valgrind
- * sees a byte too many. No reading of document 01 is here (the Rust example hammer has one): one function is held to another. What is read,
- * translated and printed is what recipe_answer prints; what is read, translated and run is what recipe_run leaves. Every refusal and every
- * end must be met. The last line is 'N inputs, M differ'; status 1: one differs, or something was never met.
+ * sees a byte too many; what is told stands between guard numbers. No reading of document 01 is here (the Rust example hammer has one): one
+ * function is held to another. What is translated and printed, or refused, is what recipe_answer prints; what is translated and run is what
+ * recipe_run leaves. Every refusal and every end must be met, and no other. The last line is 'N inputs, M differ'; status 1: one differs, or
+ * something was never met.
  */
 #include "gromavelush.h"
 
@@ -10,9 +11,18 @@
 #include <stdlib.h>
 #include <string.h>
 
-enum { SLOTS = GRO_SLOTS + 44, TEXT = GRO_TEXT + 176, REFUSALS = 11, ENDS = 4 };
+enum { SLOTS = GRO_SLOTS + 44, TEXT = GRO_TEXT + 176, OPERATIONS = GRO_CHK + 1, SIZES = GRO_LONG + 1, GUARD = 8, NUMBERS = 11 };
 
-static uint64_t seed, refusals[REFUSALS], ends[ENDS], differing;
+/* The numbers of the header, and how often each was met. */
+struct counts {
+    const char *what;
+    unsigned many;
+    uint64_t numbers[NUMBERS], met[NUMBERS];
+};
+
+static struct counts refusals = {"refusals (0 is acceptance)", 11, {0, 1, 2, 3, 4, 5, 6, 7, 8, 9, 10}, {0}};
+static struct counts ends = {"ends", 4, {GRO_FINISHED, GRO_BUDGET, GRO_TRAPPED, GRO_REFUSED}, {0}};
+static uint64_t seed, differing;
 
 static uint64_t bits(void) {
     uint64_t z = seed += 0x9E3779B97F4A7C15u;
@@ -28,6 +38,14 @@ static void agrees(int good, const char *what) {
     if (differing++ < 5) printf("DIFFERS: %s\n", what);
 }
 
+/* One more of that number; a failure if the header hasn't it. */
+static void count(struct counts *of, uint64_t number) {
+    unsigned i = 0;
+    while (i < of->many && of->numbers[i] != number) i++;
+    if (i < of->many) of->met[i]++;
+    else agrees(0, of->what);
+}
+
 /* Memory of just that size, all of it set. */
 static void *row(size_t bytes) {
     uint8_t *made = (uint8_t *)malloc(bytes ? bytes : 1);
@@ -37,25 +55,51 @@ static void *row(size_t bytes) {
     return made;
 }
 
+/* What a call tells: all ones before it, between guard numbers. */
+static const uint64_t mark = 0xA5A5A5A5A5A5A5A5u;
+static uint64_t *told_row(void) {
+    uint64_t *told = (uint64_t *)row((GUARD + GRO_TOLD + GUARD) * sizeof *told) + GUARD;
+    unsigned i;
+    for (i = 0; i < GUARD; i++) told[-1 - (int)i] = told[GRO_TOLD + i] = mark;
+    for (i = 0; i < GRO_TOLD; i++) told[i] = UINT64_MAX;
+    return told;
+}
+
+/* After the call: behind the first places, which mean something, all are 0, and the guards as they were. */
+enum { OF_RUN = 6, OF_TRANSLATION = 3, OF_RECIPE = 5 };
+static void is_told(const uint64_t *told, unsigned many) {
+    unsigned i, good = 1;
+    for (i = many; i < GRO_TOLD; i++) good &= told[i] == 0;
+    for (i = 0; i < GUARD; i++) good &= told[-1 - (int)i] == mark && told[GRO_TOLD + i] == mark;
+    agrees((int)good, "what is told, where it has no meaning, or around it");
+}
+
+static void forget(uint64_t *told) { free(told - GUARD); }
+
 struct state {
     uint32_t *d, *a;
     uint8_t *flags;
 };
 
+enum { REGISTERS = 8 * sizeof(uint32_t) };
 static struct state some_state(void) {
     struct state made;
-    made.d = (uint32_t *)row(32);
-    made.a = (uint32_t *)row(32);
+    made.d = (uint32_t *)row(REGISTERS);
+    made.a = (uint32_t *)row(REGISTERS);
     made.flags = (uint8_t *)row(1);
     return made;
 }
 
 static struct state copy_of(struct state of) {
     struct state made = some_state();
-    memcpy(made.d, of.d, 32);
-    memcpy(made.a, of.a, 32);
+    memcpy(made.d, of.d, REGISTERS);
+    memcpy(made.a, of.a, REGISTERS);
     *made.flags = *of.flags;
     return made;
+}
+
+static int same_registers(struct state one, struct state other) {
+    return !memcmp(one.d, other.d, REGISTERS) && !memcmp(one.a, other.a, REGISTERS);
 }
 
 static void drop(struct state of) {
@@ -67,12 +111,12 @@ static void drop(struct state of) {
 /* ---- operations */
 
 static void try_operation(void) {
-    uint8_t operation = (uint8_t)(below(8) ? below(30) : bits()), size = (uint8_t)(below(8) ? below(3) : bits());
+    uint8_t operation = (uint8_t)(below(8) ? below(OPERATIONS) : bits()), size = (uint8_t)(below(8) ? below(SIZES) : bits());
     uint32_t src = (uint32_t)(below(2) ? below(72) : bits()), dst = (uint32_t)bits();
     uint8_t flags = (uint8_t)bits();
     uint64_t answer = alu_call(operation, size, src, dst, flags);
     unsigned number = (unsigned)(answer >> 48 & 3);
-    refusals[number]++;
+    count(&refusals, number);
     if (operation > GRO_CHK || size > GRO_LONG) agrees(number == 2, "an unknown operation or size");
     if (number) agrees((answer & 0xFFFFFFFFFFFFu) == (uint64_t)(flags & 31) << 32, "a refusal");
     agrees(answer >> 54 == 0 && (answer >> 37 & 7) == 0, "bits that don't count");
@@ -81,8 +125,8 @@ static void try_operation(void) {
 /* ---- listings */
 
 static uint64_t some_word(void) {
-    static const uint8_t kinds[30] = {2, 2, 2, 2, 2, 2, 3, 2, 1, 1, 1, 1, 0, 0, 0, 0, 0, 1, 2, 1, 2, 1, 2, 1, 2, 1, 2, 1, 2, 2};
-    unsigned operation = below(30), size = operation == GRO_CHK ? GRO_WORD : operation >= GRO_BTST ? GRO_LONG : 1 + below(2);
+    static const uint8_t kinds[OPERATIONS] = {2, 2, 2, 2, 2, 2, 3, 2, 1, 1, 1, 1, 0, 0, 0, 0, 0, 1, 2, 1, 2, 1, 2, 1, 2, 1, 2, 1, 2, 2};
+    unsigned operation = below(OPERATIONS), size = operation == GRO_CHK ? GRO_WORD : operation >= GRO_BTST ? GRO_LONG : 1 + below(2);
     uint64_t word = GRO_STEP(operation, size, kinds[operation], 1 + below(7), below(8));
     switch (below(64)) {
     case 0: return bits();
@@ -95,135 +139,163 @@ static uint64_t some_word(void) {
 static void try_listing(void) {
     size_t length = below(SLOTS + 1), start = below(4) ? 0 : below(4) ? below(SLOTS) : (size_t)bits();
     size_t room = below(8) ? GRO_ROOM : below(400), i;
-    uint64_t *listing = (uint64_t *)row(length * 8), *told = (uint64_t *)row(48), *rest = (uint64_t *)row(48);
+    uint64_t *listing = (uint64_t *)row(length * sizeof *listing), *told = told_row(), *begun = told_row(), *rest = told_row();
     struct state whole = some_state(), halted = copy_of(whole);
     uint8_t *out = (uint8_t *)row(room);
     uint32_t budget = (uint32_t)(below(2) ? below(SLOTS) : bits()), first;
     for (i = 0; i < length; i++) listing[i] = some_word();
     listing_run(listing, length, whole.d, whole.a, whole.flags, start, budget, told);
-    ends[told[0] & 3]++;
-    if (told[0] == GRO_REFUSED) refusals[told[1]]++;
+    count(&ends, told[0]);
+    if (told[0] == GRO_REFUSED) count(&refusals, told[1]);
     first = told[4] ? below((unsigned)told[4]) : 0;
-    listing_run(listing, length, halted.d, halted.a, halted.flags, start, first, rest);
-    listing_run(listing, length, halted.d, halted.a, halted.flags, (size_t)rest[3], budget - first, rest);
-    agrees(!memcmp(told, rest, 32) && told[4] == first + rest[4], "a run in two");
-    agrees(!memcmp(whole.d, halted.d, 32) && !memcmp(whole.a, halted.a, 32) && *whole.flags == *halted.flags, "the state of a run in two");
+    listing_run(listing, length, halted.d, halted.a, halted.flags, start, first, begun);
+    listing_run(listing, length, halted.d, halted.a, halted.flags, (size_t)begun[3], budget - first, rest);
+    is_told(told, OF_RUN), is_told(begun, OF_RUN), is_told(rest, OF_RUN);
+    agrees(!memcmp(told, rest, 4 * sizeof *told) && begun[4] == first, "a run in two");
+    agrees(told[4] == first + rest[4] && told[5] == begun[5] + rest[5], "steps and clocks of a run in two");
+    agrees(same_registers(whole, halted) && *whole.flags == *halted.flags, "the state of a run in two");
     agrees(listing_print((uint8_t)bits(), listing, length, out, room) <= room, "more is printed than there is room for");
-    free(listing), free(told), free(rest), free(out), drop(whole), drop(halted);
+    free(listing), forget(told), forget(begun), forget(rest), free(out), drop(whole), drop(halted);
 }
 
 /* ---- recipes */
 
-static size_t sound(char *text, unsigned width) {
-    static const char *const verbs[] = {"clear", "copy", "add", "sub", "neg", "not", "halve", "down", "up"};
-    unsigned lines = below(GRO_LINES + 2), numbers = 8 / width, i;
+enum { VERBS = 9, LINES = 2 * GRO_LINES };
+
+/* A line behind a text: how many bytes. */
+static size_t line(char *text, unsigned verb, unsigned a, unsigned b) {
+    static const char *const verbs[VERBS + 1] = {"clear", "copy", "add", "sub", "neg", "not", "halve", "down", "up", "swap"};
+    if (verb >= 1 && verb <= 3) return (size_t)sprintf(text, "%s\t%u\t%u\n", verbs[verb], a, b);
+    return (size_t)sprintf(text, "%s\t%u\n", verbs[verb], a);
+}
+
+static size_t sound(char *text) {
+    unsigned width = 1u << below(3), numbers = 8 / width, lines = below(GRO_LINES + 2), i;
     size_t at = (size_t)sprintf(text, "width\t%u\n", width);
     for (i = 0; i < lines; i++) {
-        unsigned verb = below(9), a = below(numbers), b = (a + 1 + below(numbers - 1)) % numbers;
+        unsigned verb = below(VERBS), a = below(numbers), b = (a + 1 + below(numbers - 1)) % numbers;
         if (below(500) == 0) a = below(10);
         if (below(500) == 0) b = a;
-        if (verb >= 1 && verb <= 3) at += (size_t)sprintf(text + at, "%s\t%u\t%u\n", verbs[verb], a, b);
-        else at += (size_t)sprintf(text + at, "%s\t%u\n", verbs[verb], a);
+        at += line(text + at, verb, a, b);
     }
     return at;
 }
 
-/* A text of just its size: sound, damaged, or of any bytes. */
+/* Of any width, verbs and numbers, and of too many lines; most are sound. */
+static size_t by_hand(char *text) {
+    unsigned lines = below(8) ? below(GRO_LINES + 1) : below(LINES + 1), wild = below(4) ? 256 : 4, i;
+    size_t at = (size_t)sprintf(text, "width\t%u\n", below(8) ? 1u << below(3) : below(256));
+    for (i = 0; i < lines; i++) {
+        unsigned verb = below(VERBS), a = below(2), b = 1 - a;
+        if (below(wild) == 0) verb = below(VERBS + 1);
+        if (below(wild) == 0) a = below(2) ? below(10) : below(256);
+        if (below(wild) == 0) b = below(2) ? a : below(256);
+        at += line(text + at, verb, a, b);
+    }
+    return at;
+}
+
+/* A text of just its size. */
+static uint8_t *made_of(const char *text, size_t length) { return (uint8_t *)memcpy(row(length), text, length); }
+
+/* Sound, damaged, or of any bytes. */
 static uint8_t *some_text(size_t *length) {
     static const char often[] = "\t\n 0123456789w";
     char text[TEXT];
-    uint8_t *made;
     size_t i;
-    *length = below(16) ? sound(text, 1u << below(3)) : 0;
+    *length = below(16) ? sound(text) : 0;
     if (*length == 0)
         for (*length = below(TEXT), i = 0; i < *length; i++) text[i] = (char)bits();
     if (below(2) && *length) text[below((unsigned)*length)] = often[below(sizeof often - 1)];
     if (below(8) == 0) *length = below((unsigned)*length + 1);
-    made = (uint8_t *)row(*length);
-    memcpy(made, text, *length);
-    return made;
+    return made_of(text, *length);
 }
 
-/* What is read, translated and printed, and what is answered: into rows of the same length. */
-static void try_answer(const uint8_t *text, size_t length, const uint32_t *lines, const uint64_t *read) {
-    size_t room = below(4) ? GRO_ROOM : below(600), slots = below(4) ? GRO_STEPS : below(SLOTS + 1), i, wrote, printed;
+/* What is printed of a text that was translated, or refused by its own fault. */
+static size_t printed(const uint8_t *text, const uint64_t *listing, const uint64_t *told, uint8_t *out, size_t room) {
+    char refused[64];
+    size_t many;
+    if (told[0] == 0) return listing_print((uint8_t)(text[6] - '0'), listing, (size_t)told[2], out, room);
+    many = (size_t)sprintf(refused, "refused\t%lu\t%lu\n", (unsigned long)told[0], (unsigned long)told[1]);
+    if (many > room) many = room;
+    memcpy(out, refused, many);
+    return many;
+}
+
+/* What is translated and printed, and what is answered: into rows of the same length. */
+static void try_answer(const uint8_t *text, size_t length) {
+    size_t room = below(4) ? GRO_ROOM : below(600), slots = below(4) ? GRO_STEPS : below(SLOTS + 1), i, wrote;
     uint8_t *out = (uint8_t *)row(room), *again = (uint8_t *)row(room);
-    uint64_t *listing = (uint64_t *)row(slots * 8), *before = (uint64_t *)row(slots * 8), *told = (uint64_t *)row(24);
-    memcpy(before, listing, slots * 8);
-    recipe_translate((uint8_t)read[2], (size_t)read[3], lines, listing, slots, told);
-    refusals[told[0]]++;
-    agrees(told[0] == 0 || told[0] == 9, "a recipe that was read is translated");
+    uint64_t *listing = (uint64_t *)row(slots * sizeof *listing), *before = (uint64_t *)row(slots * sizeof *before), *told = told_row();
+    memcpy(before, listing, slots * sizeof *before);
+    recipe_translate(text, length, listing, slots, told);
+    is_told(told, OF_TRANSLATION);
+    count(&refusals, told[0]);
+    agrees(told[2] <= slots && (told[0] == 0 || told[2] == 0), "the number of steps");
+    agrees((told[1] == 0) == (told[0] == 0 || told[0] == 9), "the line of a refusal");
     for (i = (size_t)told[2]; i < slots; i++) agrees(listing[i] == before[i], "a slot past the steps");
     wrote = recipe_answer(text, length, out, room);
     agrees(wrote <= room, "more is answered than there is room for");
-    if (read[0] == 0 && told[0] == 0) {
-        printed = listing_print((uint8_t)read[2], listing, (size_t)told[2], again, room);
-        agrees(printed == wrote && !memcmp(out, again, wrote), "an answer");
-    }
-    free(out), free(again), free(listing), free(before), free(told);
+    if (told[0] != 9) agrees(printed(text, listing, told, again, room) == wrote && !memcmp(out, again, wrote), "an answer");
+    free(out), free(again), free(listing), free(before), forget(told);
 }
 
-/* What is read, translated and run, and what is run. */
-static void try_run(const uint8_t *text, size_t length, const uint32_t *lines, const uint64_t *read) {
-    uint64_t *listing = (uint64_t *)row(GRO_STEPS * 8), *made = (uint64_t *)row(24), *ran = (uint64_t *)row(48), *told = (uint64_t *)row(40);
+/* What is translated and run, and what is run. */
+static void try_run(const uint8_t *text, size_t length) {
+    uint64_t *listing = (uint64_t *)row(GRO_STEPS * sizeof *listing), *made = told_row(), *ran = told_row(), *told = told_row();
     struct state whole = some_state(), stepped = copy_of(whole);
-    recipe_translate((uint8_t)read[2], (size_t)read[3], lines, listing, GRO_STEPS, made);
+    recipe_translate(text, length, listing, GRO_STEPS, made);
     recipe_run(text, length, whole.d, whole.a, whole.flags, told);
     listing_run(listing, (size_t)made[2], stepped.d, stepped.a, stepped.flags, 0, GRO_STEPS, ran);
-    agrees(told[0] == read[0] && told[1] == read[1], "the refusal of a recipe");
+    is_told(made, OF_TRANSLATION), is_told(told, OF_RECIPE), is_told(ran, OF_RUN);
+    agrees(made[0] == told[0] && made[1] == told[1], "the refusal of a recipe");
     agrees(told[3] == ran[4] && told[4] == ran[5], "steps and clocks of a recipe");
-    agrees(!memcmp(whole.d, stepped.d, 32) && !memcmp(whole.a, stepped.a, 32), "the registers after a recipe");
+    agrees(same_registers(whole, stepped), "the registers after a recipe");
     agrees(*whole.flags == (*stepped.flags & told[2]), "the flags after a recipe");
-    free(listing), free(made), free(ran), free(told), drop(whole), drop(stepped);
+    free(listing), forget(made), forget(ran), forget(told), drop(whole), drop(stepped);
 }
 
 static void try_text(void) {
     size_t length;
     uint8_t *text = some_text(&length);
-    uint32_t *lines = (uint32_t *)row(GRO_LINES * 4);
-    uint64_t *read = (uint64_t *)row(32);
-    recipe_read(text, length, lines, read);
-    refusals[read[0]]++;
-    try_answer(text, length, lines, read);
-    try_run(text, length, lines, read);
-    free(text), free(lines), free(read);
+    try_answer(text, length);
+    try_run(text, length);
+    free(text);
 }
 
-/* Any bytes for a recipe. */
-static void try_words(void) {
-    size_t slots = below(SLOTS + 1), count = below(8) ? below(GRO_LINES + 1) : (size_t)bits(), i;
-    uint32_t *lines = (uint32_t *)row(GRO_LINES * 4);
-    uint64_t *listing = (uint64_t *)row(slots * 8), *told = (uint64_t *)row(24);
-    if (below(4))
-        for (i = 0; i < GRO_LINES; i++) lines[i] = GRO_LINE(below(64) ? below(9) : below(256), below(2), below(32) ? 1 : below(256));
-    recipe_translate((uint8_t)(below(8) ? 1u << below(3) : below(256)), count, lines, listing, slots, told);
-    refusals[told[0]]++;
-    agrees(told[2] <= slots && (told[0] == 0 || told[2] == 0), "the steps of a recipe in words");
-    free(lines), free(listing), free(told);
+static void try_by_hand(void) {
+    char room[TEXT];
+    size_t length = by_hand(room);
+    uint8_t *text = made_of(room, length);
+    try_answer(text, length);
+    free(text);
 }
 
-static int is_met(const char *what, const uint64_t *counts, unsigned many) {
+static int all_met(const struct counts *of) {
     unsigned i, good = 1;
-    printf("%s:", what);
-    for (i = 0; i < many; i++) printf(" %lu", (unsigned long)counts[i]), good &= counts[i] != 0;
+    printf("%s:", of->what);
+    for (i = 0; i < of->many; i++) {
+        printf(" %lu: %lu", (unsigned long)of->numbers[i], (unsigned long)of->met[i]);
+        good &= of->met[i] != 0;
+    }
     puts(good ? "" : "  NEVER MET: one of these");
     return (int)good;
 }
 
 int main(int argc, char **argv) {
-    unsigned long count = argc > 1 ? strtoul(argv[1], NULL, 10) : 100000, i;
+    unsigned long inputs = argc > 1 ? strtoul(argv[1], NULL, 10) : 100000, i;
     int met;
     seed = argc > 2 ? strtoul(argv[2], NULL, 10) : 1;
-    for (i = 0; i < count; i++) {
+    for (i = 0; i < inputs; i++) {
         switch (i % 8) {
         case 0: try_text(); break;
-        case 1: try_words(); break;
+        case 1: try_by_hand(); break;
         case 2: try_listing(); break;
         default: try_operation(); break;
         }
     }
-    met = is_met("accepted, refused with 1 to 10", refusals, REFUSALS);
-    met &= is_met("Finished, Budget, Trapped, Refused", ends, ENDS);
-    printf("%lu inputs, %lu differ\n", count, (unsigned long)differing);
+    met = all_met(&refusals);
+    met &= all_met(&ends);
+    printf("%lu inputs, %lu differ\n", inputs, (unsigned long)differing);
     return !met || differing != 0;
 }
