@@ -5,11 +5,12 @@
 //! - single operations on values and flags: [`exec_add`], [`exec_addx`], [`exec_chk`] and 27 more;
 //! - a step machine: a [`State`] of registers and flags, a [`Listing`] of [`Step`]s, and [`run`], which can be halted after
 //!   any step and continued;
-//! - counter recipes, short texts on whole numbers of one, two or four long words: [`read`], [`translate`], [`print`],
-//!   [`answer`] and [`run_text`].
+//! - counter recipes, short texts on whole numbers of one, two or four long words: [`translate`], [`print`], [`answer`] and
+//!   [`run_text`]; a [`Recipe`] made by hand prints as its text.
 //!
-//! What a function does not take it refuses, with one of document 01's ten numbers ([`Refusal`]), and changes nothing. No
-//! function panics on any input.
+//! What a function does not take it refuses, with one of document 01's numbers ([`Refusal`]), and changes nothing. No
+//! function panics on any input; only a library of another version, which tells what this package doesn't know, makes one
+//! panic.
 //!
 //! Results, flags, figures, refusals, listings and printed bytes are proved in the library. This package carries numbers
 //! there and back; it is tested, not proved. The README in `bindings/` says how to build and link it.
@@ -52,7 +53,7 @@ pub use limits::{MOST_LINES, MOST_STEPS, RECIPE_STEPS};
 pub use listing::{End, Listing, Ran, TooLong, Trap, run, run_words};
 pub use operations::{AddressOp, BitOp, OneOp, QuickOp, ShiftOp, TwoOp};
 pub use recipe::{
-    Line, Recipe, RecipeRun, Refused, Verb, answer, print, read, run_text, translate, translate_into,
+    Line, Recipe, RecipeRun, Refused, Verb, answer, print, run_text, translate, translate_into,
 };
 pub use state::{NotSet, State};
 pub use step::{A, Count, D, Form, NoStep, Register, Step};

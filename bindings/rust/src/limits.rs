@@ -12,5 +12,36 @@ pub const RECIPE_STEPS: usize = 256;
 /// Bytes enough for what is printed of any listing.
 pub(crate) const ROOM: usize = 20_480;
 
+/// The numbers that a call of the library tells: `GRO_TOLD`. Those without a meaning are 0.
+pub(crate) const TOLD: usize = 8;
+
 // what a recipe is translated to is a listing
 const _: () = assert!(RECIPE_STEPS <= MOST_STEPS);
+
+#[cfg(test)]
+mod tests {
+    use super::*;
+
+    /// What the header defines a name as.
+    fn defined(name: &str) -> Option<usize> {
+        let header = include_str!("../../c/gromavelush.h");
+        header.lines().find_map(|line| match line.split_whitespace().collect::<Vec<_>>()[..] {
+            ["#define", defined, number, ..] if defined == name => number.parse().ok(),
+            _ => None,
+        })
+    }
+
+    #[test]
+    fn the_header_has_the_same_limits() {
+        let limits = [
+            ("GRO_LINES", MOST_LINES),
+            ("GRO_SLOTS", MOST_STEPS),
+            ("GRO_STEPS", RECIPE_STEPS),
+            ("GRO_ROOM", ROOM),
+            ("GRO_TOLD", TOLD),
+        ];
+        for (name, limit) in limits {
+            assert_eq!(defined(name), Some(limit), "{name}");
+        }
+    }
+}

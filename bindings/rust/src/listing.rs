@@ -1,10 +1,10 @@
 //! Listings of steps, and runs with a budget.
 
-use crate::limits::MOST_STEPS;
+use crate::limits::{MOST_STEPS, TOLD};
 use crate::state::State;
 use crate::step::Step;
 use crate::sys;
-use crate::types::Refusal;
+use crate::types::{Refusal, other_version};
 use std::error::Error;
 use std::fmt::{self, Display, Formatter};
 
@@ -116,18 +116,20 @@ fn trap_of(class: u64) -> Trap {
     match class {
         1 => Trap::Over,
         2 => Trap::Short,
-        _ => Trap::Below,
+        3 => Trap::Below,
+        _ => other_version("the trap", class),
     }
 }
 
 impl Ran {
-    fn told([end, which, place, next, steps, clocks]: [u64; 6]) -> Ran {
+    fn told([end, which, place, next, steps, clocks, ..]: [u64; TOLD]) -> Ran {
         let place = place as usize;
         let end = match end {
             0 => End::Finished,
             1 => End::Budget,
             2 => End::Trapped { class: trap_of(which), place },
-            _ => End::Refused { refusal: Refusal::told(which).unwrap_or(Refusal::NoSuchSize), place },
+            3 => End::Refused { refusal: Refusal::of(which), place },
+            _ => other_version("the end", end),
         };
         Ran { end, next: next as usize, steps: steps as u32, clocks }
     }

@@ -1,6 +1,6 @@
-//! Counter recipes: read, translated, printed and run.
+//! Counter recipes: texts that are translated, printed and run.
 
-use crate::limits::{MOST_LINES, RECIPE_STEPS, ROOM};
+use crate::limits::{RECIPE_STEPS, ROOM};
 use crate::listing::Listing;
 use crate::state::State;
 use crate::step::Step;
@@ -33,7 +33,7 @@ pub enum Verb {
 }
 
 impl Verb {
-    /// The nine verbs. A verb's place here is its number in the library's words.
+    /// The nine verbs.
     pub const ALL: [Verb; 9] = [
         Verb::Clear,
         Verb::Copy,
@@ -69,7 +69,7 @@ impl Display for Verb {
     }
 }
 
-/// A line of a recipe. A verb that takes one number has it in `a`, and `b` doesn't count.
+/// A line of a recipe made by hand. A verb that takes one number has it in `a`, and `b` isn't printed.
 #[derive(Clone, Copy, PartialEq, Eq, Hash, Debug)]
 pub struct Line {
     /// What it does.
@@ -80,17 +80,6 @@ pub struct Line {
     pub b: u8,
 }
 
-impl Line {
-    fn word(self) -> u32 {
-        u32::from_le_bytes([self.verb as u8, self.a, self.b, 0])
-    }
-
-    fn of(word: u32) -> Line {
-        let [verb, a, b, _] = word.to_le_bytes();
-        Line { verb: Verb::ALL.get(usize::from(verb)).copied().unwrap_or(Verb::Clear), a, b }
-    }
-}
-
 /// The line as a recipe text has it, without its byte 10.
 impl Display for Line {
     fn fmt(&self, f: &mut Formatter) -> fmt::Result {
@@ -99,24 +88,31 @@ impl Display for Line {
     }
 }
 
-/// A recipe, read or made by hand. What is wrong with one made by hand the translator tells.
+/// A recipe made by hand. Its text is what [`translate`], [`run_text`] and [`answer`] take, and they tell what is wrong with
+/// it; a number above 9 isn't one digit there.
+///
+/// ```
+/// use gromavelush::{Line, Recipe, Refusal, Verb, translate};
+///
+/// let mut recipe = Recipe { width: 2, lines: vec![Line { verb: Verb::Add, a: 0, b: 1 }] };
+/// let text = recipe.to_string();
+/// assert_eq!(text, "width\t2\nadd\t0\t1\n");
+/// assert_eq!(translate(text.as_bytes())?.steps().len(), 2);
+///
+/// recipe.lines.push(Line { verb: Verb::Neg, a: 4, b: 0 });
+/// let refused = translate(recipe.to_string().as_bytes()).unwrap_err();
+/// assert_eq!((refused.refusal, refused.line), (Refusal::NoSuchNumber, 3));
+/// # Ok::<(), gromavelush::Refused>(())
+/// ```
 #[derive(Clone, PartialEq, Eq, Hash, Debug)]
 pub struct Recipe {
     /// The width of its numbers: 1, 2 or 4 registers.
     pub width: u8,
-    /// Its lines, at most [`MOST_LINES`].
+    /// Its lines, at most [`MOST_LINES`](crate::MOST_LINES).
     pub lines: Vec<Line>,
 }
 
 /// The recipe's text.
-///
-/// ```
-/// use gromavelush::{Line, Recipe, Verb, read};
-///
-/// let recipe = Recipe { width: 2, lines: vec![Line { verb: Verb::Add, a: 0, b: 1 }] };
-/// assert_eq!(recipe.to_string(), "width\t2\nadd\t0\t1\n");
-/// assert_eq!(read(recipe.to_string().as_bytes()), Ok(recipe));
-/// ```
 impl Display for Recipe {
     fn fmt(&self, f: &mut Formatter) -> fmt::Result {
         writeln!(f, "width\t{}", self.width)?;
@@ -129,8 +125,8 @@ impl Display for Recipe {
 pub struct Refused {
     /// Why.
     pub refusal: Refusal,
-    /// The text line, counted from 1: the width is on line 1, a recipe's first line on line 2. The translator's refusals 8
-    /// and 9 have line 0.
+    /// The text line, counted from 1: the width is on line 1, a recipe's first line on line 2. Refusal 9 is of the slots, and
+    /// has line 0.
     pub line: usize,
 }
 
@@ -155,71 +151,51 @@ impl Display for Refused {
 
 impl Error for Refused {}
 
-/// Reads a recipe text: `width`, a tab and 1, 2 or 4 on the first line, then up to [`MOST_LINES`] lines of a verb and its
-/// numbers. Fields are parted by one tab, and each line ends with byte 10.
-///
-/// ```
-/// use gromavelush::{Refusal, read};
-///
-/// assert_eq!(read(b"width\t2\nneg\t1\n")?.lines.len(), 1);
-/// let refused = read(b"width\t4\nadd\t0\t2\n").unwrap_err();
-/// assert_eq!((refused.refusal, refused.line), (Refusal::NoSuchNumber, 2));
-/// # Ok::<(), gromavelush::Refused>(())
-/// ```
-pub fn read(text: &[u8]) -> Result<Recipe, Refused> {
-    let (words, [number, line, width, count]) = sys::recipe_read(text);
-    Refused::told(number, line)?;
-    let lines = words.into_iter().take(count as usize).map(Line::of).collect();
-    Ok(Recipe { width: width as u8, lines })
-}
-
 /// Translates into words: how many steps.
-fn translate_words(recipe: &Recipe, words: &mut [u64]) -> Result<usize, Refused> {
-    let mut lines = [0; MOST_LINES];
-    for (word, line) in lines.iter_mut().zip(&recipe.lines) {
-        *word = line.word();
-    }
-    let [number, line, steps] = sys::recipe_translate(recipe.width, recipe.lines.len(), &lines, words);
+fn translate_words(text: &[u8], words: &mut [u64]) -> Result<usize, Refused> {
+    let [number, line, steps, ..] = sys::recipe_translate(text, words);
     Refused::told(number, line)?;
     Ok(steps as usize)
 }
 
-/// The listing of a recipe.
+/// The listing of a recipe text: `width`, a tab and 1, 2 or 4 on the first line, then up to
+/// [`MOST_LINES`](crate::MOST_LINES) lines of a [`Verb`] and its numbers, one digit each. Fields are parted by one tab, and
+/// each line ends with byte 10.
 ///
 /// ```
-/// use gromavelush::{Line, Recipe, Verb, translate};
+/// use gromavelush::{Refusal, translate};
 ///
-/// let recipe = Recipe { width: 2, lines: vec![Line { verb: Verb::Neg, a: 1, b: 0 }] };
-/// let listing = translate(&recipe)?;
+/// let listing = translate(b"width\t2\nneg\t1\n")?;
 /// assert_eq!(listing.steps()[1].to_string(), "NEGX\tL\t-\tD3");
+/// let refused = translate(b"width\t4\nadd\t0\t2\n").unwrap_err();
+/// assert_eq!((refused.refusal, refused.line), (Refusal::NoSuchNumber, 2));
 /// # Ok::<(), gromavelush::Refused>(())
 /// ```
-pub fn translate(recipe: &Recipe) -> Result<Listing, Refused> {
+pub fn translate(text: &[u8]) -> Result<Listing, Refused> {
     let mut words = [0; RECIPE_STEPS];
-    let steps = translate_words(recipe, &mut words)?;
+    let steps = translate_words(text, &mut words)?;
     Ok(Listing::written(words.get(..steps).unwrap_or(&words)))
 }
 
-/// Translates a recipe into slots, and answers how many steps it has. The slots past them stay; a refusal leaves all. Too
-/// few slots are refused with 9.
+/// Translates a recipe text into slots, and answers how many steps it has. The slots past them stay; a refusal leaves all.
+/// Too few slots are refused with 9.
 ///
 /// ```
-/// use gromavelush::{D, Form, OneOp, Refusal, Size, Step, read, translate_into};
+/// use gromavelush::{D, Form, OneOp, Refusal, Size, Step, translate_into};
 ///
 /// let blank = Step { size: Size::Long, form: Form::One(OneOp::Clr, D(7)) };
 /// let mut slots = [blank; 3];
-/// let recipe = read(b"width\t2\nneg\t1\n")?;
-/// assert_eq!(translate_into(&recipe, &mut slots)?, 2);
+/// assert_eq!(translate_into(b"width\t2\nneg\t1\n", &mut slots)?, 2);
 /// assert_eq!(slots[2], blank);
-/// let refused = translate_into(&recipe, &mut slots[..1]).unwrap_err();
+/// let refused = translate_into(b"width\t2\nneg\t1\n", &mut slots[..1]).unwrap_err();
 /// assert_eq!((refused.refusal, refused.line), (Refusal::NoSpace, 0));
 /// # Ok::<(), gromavelush::Refused>(())
 /// ```
-pub fn translate_into(recipe: &Recipe, slots: &mut [Step]) -> Result<usize, Refused> {
+pub fn translate_into(text: &[u8], slots: &mut [Step]) -> Result<usize, Refused> {
     let mut words = [0; RECIPE_STEPS];
     let length = slots.len().min(RECIPE_STEPS);
     let row = words.get_mut(..length).unwrap_or_default();
-    let steps = translate_words(recipe, row)?;
+    let steps = translate_words(text, row)?;
     for (slot, &word) in slots.iter_mut().zip(&words).take(steps) {
         *slot = Step::of(word);
     }
@@ -241,10 +217,9 @@ fn printed(print: impl FnOnce(&mut [u8]) -> usize) -> String {
 /// there has 0.
 ///
 /// ```
-/// use gromavelush::{print, read, translate};
+/// use gromavelush::{print, translate};
 ///
-/// let recipe = read(b"width\t2\nadd\t0\t1\n")?;
-/// let listing = translate(&recipe)?;
+/// let listing = translate(b"width\t2\nadd\t0\t1\n")?;
 /// assert_eq!(print(2, &listing), "width\t2\t2\n0\tADD\tL\tD0\tD2\n1\tADDX\tL\tD1\tD3\nclocks\t8\n");
 /// # Ok::<(), gromavelush::Refused>(())
 /// ```
@@ -291,7 +266,8 @@ pub struct RecipeRun {
 /// # Ok::<(), Box<dyn std::error::Error>>(())
 /// ```
 pub fn run_text(text: &[u8], state: &mut State) -> Result<RecipeRun, Refused> {
-    let [number, line, promised, steps, clocks] = state.lent(|registers| sys::recipe_run(text, registers));
+    let [number, line, promised, steps, clocks, ..] =
+        state.lent(|registers| sys::recipe_run(text, registers));
     Refused::told(number, line)?;
     let flags = (promised == 31).then_some(state.flags);
     Ok(RecipeRun { x: state.flags.x, flags, steps: steps as u32, clocks })

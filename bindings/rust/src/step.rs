@@ -165,13 +165,13 @@ impl Step {
     const REFUSED: Step = Step { size: Size::Byte, form: Form::Chk(D(0), D(0)) };
 
     /// The step's word: byte 0 (the lowest) the operation, 1 the size, 2 the source's kind, 3 the source's number, 4 the
-    /// destination's number. `bindings/c/gromavelush.h` has the numbers.
+    /// destination's number; 5 to 7 are reserved, and 0. `bindings/c/gromavelush.h` has the numbers.
     pub fn word(self) -> u64 {
         let (operation, (kind, source), to) = self.form.bytes();
         u64::from_le_bytes([operation, self.size.number(), kind, source, to, 0, 0, 0])
     }
 
-    /// The step that a word names. As in the library the bytes above the fifth don't count.
+    /// The step that a word names. As in the library of today the reserved bytes don't count.
     fn named(word: u64) -> Option<Step> {
         let [operation, size, kind, source, to, ..] = word.to_le_bytes();
         let size = Size::ALL.get(usize::from(size)).copied()?;
@@ -185,7 +185,7 @@ impl Step {
 }
 
 /// The step of a word that [`Step::word`] gives. Any other word is an error: one that names no step, and one with
-/// something in the bytes that don't count.
+/// something in the reserved bytes, or in a source's number where there is no source.
 impl TryFrom<u64> for Step {
     type Error = NoStep;
 

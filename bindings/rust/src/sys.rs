@@ -1,7 +1,7 @@
 //! The library's C functions, made safe. `bindings/c/gromavelush.h` says what each one does, and what its caller must
 //! keep. `unsafe` stands here alone.
 
-use crate::limits::MOST_LINES;
+use crate::limits::TOLD;
 
 mod c {
     unsafe extern "C" {
@@ -24,11 +24,9 @@ mod c {
             out: *mut u8,
             room: usize,
         ) -> usize;
-        pub fn recipe_read(text: *const u8, length: usize, lines: *mut u32, told: *mut u64);
         pub fn recipe_translate(
-            width: u8,
-            count: usize,
-            lines: *const u32,
+            text: *const u8,
+            text_length: usize,
             listing: *mut u64,
             length: usize,
             told: *mut u64,
@@ -54,8 +52,8 @@ pub struct Registers<'a> {
     pub flags: &'a mut u8,
 }
 
-pub fn listing_run(listing: &[u64], on: Registers, start: usize, budget: u32) -> [u64; 6] {
-    let mut told = [0; 6];
+pub fn listing_run(listing: &[u64], on: Registers, start: usize, budget: u32) -> [u64; TOLD] {
+    let mut told = [0; TOLD];
     // SAFETY: each pointer is of a reference or a slice, so it is aligned, not null, and to as many set elements as the
     // function takes there; the lengths are the slices' own. The rows that it writes are borrowed mutably or are ours,
     // so they overlap nothing. It keeps no pointer.
@@ -80,23 +78,14 @@ pub fn listing_print(width: u8, listing: &[u64], out: &mut [u8]) -> usize {
     unsafe { c::listing_print(width, listing.as_ptr(), listing.len(), out.as_mut_ptr(), out.len()) }
 }
 
-pub fn recipe_read(text: &[u8]) -> ([u32; MOST_LINES], [u64; 4]) {
-    let (mut lines, mut told) = ([0; MOST_LINES], [0; 4]);
-    // SAFETY: `text` is a slice, handed over with its own length; the two rows that are written are ours and have the
-    // lengths that the function takes. It keeps no pointer.
-    unsafe { c::recipe_read(text.as_ptr(), text.len(), lines.as_mut_ptr(), told.as_mut_ptr()) };
-    (lines, told)
-}
-
-pub fn recipe_translate(width: u8, count: usize, lines: &[u32; MOST_LINES], listing: &mut [u64]) -> [u64; 3] {
-    let mut told = [0; 3];
-    // SAFETY: `lines` has as many words as the function takes, whatever `count` is; `listing` is handed over with its own
-    // length and is borrowed mutably, and `told` is ours, so no row that is written overlaps another. It keeps no pointer.
+pub fn recipe_translate(text: &[u8], listing: &mut [u64]) -> [u64; TOLD] {
+    let mut told = [0; TOLD];
+    // SAFETY: `text` and `listing` are slices, handed over with their own lengths; `listing` is borrowed mutably and `told`
+    // is ours, of the length that the function takes, so no row that is written overlaps another. It keeps no pointer.
     unsafe {
         c::recipe_translate(
-            width,
-            count,
-            lines.as_ptr(),
+            text.as_ptr(),
+            text.len(),
             listing.as_mut_ptr(),
             listing.len(),
             told.as_mut_ptr(),
@@ -111,8 +100,8 @@ pub fn recipe_answer(text: &[u8], out: &mut [u8]) -> usize {
     unsafe { c::recipe_answer(text.as_ptr(), text.len(), out.as_mut_ptr(), out.len()) }
 }
 
-pub fn recipe_run(text: &[u8], on: Registers) -> [u64; 5] {
-    let mut told = [0; 5];
+pub fn recipe_run(text: &[u8], on: Registers) -> [u64; TOLD] {
+    let mut told = [0; TOLD];
     // SAFETY: `text` is a slice, handed over with its own length; the rows that are written are borrowed mutably or are
     // ours, so they overlap nothing, and have the lengths that the function takes. It keeps no pointer.
     unsafe {

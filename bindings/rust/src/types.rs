@@ -90,99 +90,113 @@ impl Display for Flags {
     }
 }
 
-/// Why something is refused: document 01's ten numbers. What is refused changes nothing.
-///
-/// ```
-/// use gromavelush::{Flags, Refusal, Size, exec_ext};
-///
-/// let refusal = exec_ext(Size::Byte, 0x80, Flags::default()).unwrap_err();
-/// assert_eq!(refusal, Refusal::NoSuchSize);
-/// assert_eq!(refusal.number(), 2);
-/// ```
-#[derive(Clone, Copy, PartialEq, Eq, Hash, Debug)]
-pub enum Refusal {
-    /// 1: ROXL or ROXR is called with a count above 63, or a step's small number is out of its range.
-    BadSmall = 1,
-    /// 2: the operation hasn't that size, or a word names no step.
-    NoSuchSize = 2,
-    /// 3: a register number above 7.
-    NoSuchRegister = 3,
-    /// 4: the width line isn't `width`, a tab, and 1, 2 or 4.
-    WidthLine = 4,
-    /// 5: an unknown verb, a wrong number of fields, a field that isn't one digit, or a line without byte 10.
-    Syntax = 5,
-    /// 6: a digit that names no number at this width.
-    NoSuchNumber = 6,
-    /// 7: a number is copied onto itself.
-    OntoItself = 7,
-    /// 8: more recipe lines than [`MOST_LINES`].
-    TooManyLines = 8,
-    /// 9: there are fewer slots than the recipe's listing has steps.
-    NoSpace = 9,
-    /// 10: a run's start place is past the listing's end.
-    StartPastEnd = 10,
+/// What the library tells isn't known here. To go on would be to guess.
+#[cold]
+pub(crate) fn other_version(what: &str, number: u64) -> ! {
+    panic!(
+        "libgromavelush.a tells {what} {number}, which the package gromavelush hasn't: \
+         they are of DIFFERENT VERSIONS; build both of one tree"
+    )
+}
+
+macro_rules! refusals {
+    ($($name:ident = $number:literal $why:literal, $to_do:literal;)+) => {
+        /// Why something is refused: document 01's numbers. What is refused changes nothing.
+        ///
+        /// ```
+        /// use gromavelush::{Flags, Refusal, Size, exec_ext};
+        ///
+        /// let refusal = exec_ext(Size::Byte, 0x80, Flags::default()).unwrap_err();
+        /// assert_eq!(refusal, Refusal::NoSuchSize);
+        /// assert_eq!(refusal.number(), 2);
+        /// ```
+        #[derive(Clone, Copy, PartialEq, Eq, Hash, Debug)]
+        pub enum Refusal {
+            $(#[doc = concat!($number, ": ", $why, ".")] $name = $number,)+
+        }
+
+        impl Refusal {
+            /// All of them, in the order of their numbers.
+            pub const ALL: &[Refusal] = &[$(Refusal::$name),+];
+        }
+
+        /// The number, and what to do.
+        impl Display for Refusal {
+            fn fmt(&self, f: &mut Formatter) -> fmt::Result {
+                write!(f, "refused with {}: ", self.number())?;
+                match self {
+                    $(Refusal::$name => write!(f, $to_do),)+
+                }
+            }
+        }
+    };
+}
+
+// name and number; why; what to do
+refusals! {
+    BadSmall = 1 "ROXL or ROXR is called with a count above 63, or a step's small number is out of its range",
+        "a small number is out of its range; use 1 to 8, for a bit 0 to 31, for a call of ROXL or ROXR 0 to 63";
+    NoSuchSize = 2 "the operation hasn't that size, or a word names no step",
+        "the operation hasn't this size, or the word names no step; use a size that it has";
+    NoSuchRegister = 3 "a register number above 7",
+        "there is no such register; use 0 to 7";
+    WidthLine = 4 "the width line isn't `width`, a tab, and 1, 2 or 4",
+        "the width line is wrong; begin with `width`, a tab, and 1, 2 or 4";
+    Syntax = 5 "an unknown verb, a wrong number of fields, a field that isn't one digit, or a line without byte 10",
+        "the line is wrong; write a verb and its numbers, one digit each, one tab between, and end it with byte 10";
+    NoSuchNumber = 6 "a digit that names no number at this width",
+        "there is no such number; use 0 to 7 at width 1, 0 to 3 at width 2, 0 or 1 at width 4";
+    OntoItself = 7 "a number is copied onto itself",
+        "a number can't be copied onto itself; leave the line out";
+    TooManyLines = 8 "more recipe lines than [`MOST_LINES`]",
+        "the recipe has more than {MOST_LINES} lines; make two of it";
+    NoSpace = 9 "there are fewer slots than the recipe's listing has steps",
+        "the listing has too few slots; {RECIPE_STEPS} are enough for any recipe";
+    StartPastEnd = 10 "a run's start place is past the listing's end",
+        "the start place is past the end of the listing; a listing ends at {MOST_STEPS}";
 }
 
 impl Refusal {
-    /// All ten, in the order of their numbers.
-    pub const ALL: [Refusal; 10] = [
-        Refusal::BadSmall,
-        Refusal::NoSuchSize,
-        Refusal::NoSuchRegister,
-        Refusal::WidthLine,
-        Refusal::Syntax,
-        Refusal::NoSuchNumber,
-        Refusal::OntoItself,
-        Refusal::TooManyLines,
-        Refusal::NoSpace,
-        Refusal::StartPastEnd,
-    ];
-
-    /// Document 01's number, 1 to 10.
+    /// Document 01's number.
     pub fn number(self) -> u8 {
         self as u8
     }
 
-    /// The refusal of a number that the library tells; 0 is none.
-    pub(crate) fn told(number: u64) -> Option<Refusal> {
-        let at = usize::try_from(number).ok()?.checked_sub(1)?;
-        Refusal::ALL.get(at).copied()
+    /// The refusal of that number. One that isn't here is a fault of the build, and no acceptance.
+    pub(crate) fn of(number: u64) -> Refusal {
+        let found = Refusal::ALL.iter().find(|refusal| u64::from(refusal.number()) == number);
+        *found.unwrap_or_else(|| other_version("the refusal", number))
     }
-}
 
-/// The number, and what to do.
-impl Display for Refusal {
-    fn fmt(&self, f: &mut Formatter) -> fmt::Result {
-        write!(f, "refused with {}: ", self.number())?;
-        match self {
-            Refusal::BadSmall => f.write_str(
-                "a small number is out of its range; use 1 to 8, for a bit 0 to 31, for a call of ROXL or ROXR 0 to 63",
-            ),
-            Refusal::NoSuchSize => {
-                f.write_str("the operation hasn't this size, or the word names no step; use a size that it has")
-            }
-            Refusal::NoSuchRegister => f.write_str("there is no such register; use 0 to 7"),
-            Refusal::WidthLine => {
-                f.write_str("the width line is wrong; begin with `width`, a tab, and 1, 2 or 4")
-            }
-            Refusal::Syntax => f.write_str(
-                "the line is wrong; write a verb and its numbers, one digit each, one tab between, and end it with byte 10",
-            ),
-            Refusal::NoSuchNumber => f.write_str(
-                "there is no such number; use 0 to 7 at width 1, 0 to 3 at width 2, 0 or 1 at width 4",
-            ),
-            Refusal::OntoItself => f.write_str("a number can't be copied onto itself; leave the line out"),
-            Refusal::TooManyLines => {
-                write!(f, "the recipe has more than {MOST_LINES} lines; make two of it")
-            }
-            Refusal::NoSpace => {
-                write!(f, "the listing has too few slots; {RECIPE_STEPS} are enough for any recipe")
-            }
-            Refusal::StartPastEnd => {
-                write!(f, "the start place is past the end of the listing; a listing ends at {MOST_STEPS}")
-            }
-        }
+    /// What the library tells: 0 is acceptance.
+    pub(crate) fn told(number: u64) -> Option<Refusal> {
+        (number != 0).then(|| Refusal::of(number))
     }
 }
 
 impl Error for Refusal {}
+
+#[cfg(test)]
+mod tests {
+    use super::*;
+    use std::panic::catch_unwind;
+
+    #[test]
+    fn a_refusal_is_found_by_its_number() {
+        assert_eq!(Refusal::told(0), None);
+        for &refusal in Refusal::ALL {
+            assert_eq!(Refusal::told(refusal.number().into()), Some(refusal));
+        }
+    }
+
+    #[test]
+    fn a_number_that_no_refusal_has_is_no_acceptance() {
+        let known: Vec<u64> = Refusal::ALL.iter().map(|refusal| refusal.number().into()).collect();
+        let others = (1..1000).chain([1 << 32, (1 << 32) + 1, u64::MAX]);
+        for number in others.filter(|number| !known.contains(number)) {
+            let said = catch_unwind(|| Refusal::told(number)).expect_err("it is loud");
+            let said = said.downcast_ref::<String>().expect("words");
+            assert!(said.contains("DIFFERENT VERSIONS") && said.contains(&format!(" {number},")), "{said}");
+        }
+    }
+}

@@ -1,7 +1,7 @@
 //! Listings of any words, some longer than a listing is run, from any place with any budget: run and printed.
 
 use crate::cases::Random;
-use crate::raw::{self, Registers, Row};
+use crate::raw::{self, Registers, Row, TOLD, told_of};
 use crate::recipes::SLOTS;
 use crate::steps::{Adr, Bit, Count, Flags, Form, One, Quick, Register, Shift, Size, State, Step, Two};
 use crate::steps::{MIXED, WILD, listing_of};
@@ -76,14 +76,14 @@ fn some_words(random: &mut Random) -> Vec<u64> {
     words.collect()
 }
 
-fn told_of_safe(ran: &safe::Ran) -> [u64; 6] {
+fn told_of_safe(ran: &safe::Ran) -> [u64; TOLD] {
     let [end, which, place] = match ran.end {
         safe::End::Finished => [0, 0, 0],
         safe::End::Budget => [1, 0, 0],
         safe::End::Trapped { class, place } => [2, 1 + class as u64, place as u64],
         safe::End::Refused { refusal, place } => [3, refusal.number().into(), place as u64],
     };
-    [end, which, place, ran.next as u64, ran.steps.into(), ran.clocks]
+    told_of(&[end, which, place, ran.next as u64, ran.steps.into(), ran.clocks])
 }
 
 fn some_start(random: &mut Random, length: usize) -> usize {
@@ -105,7 +105,7 @@ fn some_budget(random: &mut Random) -> u32 {
     }
 }
 
-fn counted(should: [u64; 6], tally: &mut Tally) {
+fn counted(should: [u64; TOLD], tally: &mut Tally) {
     tally.ended(should[0]);
     match should[0] {
         2 => tally.class(should[1]),
@@ -118,7 +118,7 @@ fn try_run(random: &mut Random, words: &Row<u64>, steps: &[Step], tally: &mut Ta
     let (start, budget) = (some_start(random, words.get().len()), some_budget(random));
     let before = some_state(random);
     let mut after = before;
-    let should = tuned::run(steps, &mut after, start, budget).told();
+    let should = told_of(&tuned::run(steps, &mut after, start, budget).told());
     let dirt = random.bits() as u8 & 0xE0;
     let mut on = Registers::of(&before.d, &before.a, before.flags.ccr() | dirt);
     let raw::Told(told, whole) = raw::run(words, &mut on, start, budget);
@@ -137,7 +137,7 @@ fn try_safe_run(
     before: &State,
     after: &State,
     (start, budget): (usize, u32),
-    should: [u64; 6],
+    should: [u64; TOLD],
     tally: &mut Tally,
 ) {
     let mut agrees = |name: &str, ran: safe::Ran, state: safe::State| {

@@ -14,11 +14,9 @@ unsafe extern "C" {
         told: *mut u64,
     );
     fn listing_print(width: u8, listing: *const u64, length: usize, out: *mut u8, room: usize) -> usize;
-    fn recipe_read(text: *const u8, length: usize, lines: *mut u32, told: *mut u64);
     fn recipe_translate(
-        width: u8,
-        count: usize,
-        lines: *const u32,
+        text: *const u8,
+        text_length: usize,
         listing: *mut u64,
         length: usize,
         told: *mut u64,
@@ -80,19 +78,30 @@ impl Registers {
     }
 }
 
-/// A row of words that is told, and whether its guards are whole.
-pub struct Told<const N: usize>(pub [u64; N], pub bool);
+/// The numbers that a call tells: `GRO_TOLD`.
+pub const TOLD: usize = 8;
 
-fn told<const N: usize>(row: &Row<u64>) -> Told<N> {
-    let mut words = [0; N];
-    words.copy_from_slice(row.get());
-    Told(words, row.is_intact())
+/// What is told, and whether the guards around it are whole.
+pub struct Told(pub [u64; TOLD], pub bool);
+
+/// What should be told: these numbers, and 0 in the places without a meaning.
+pub fn told_of(numbers: &[u64]) -> [u64; TOLD] {
+    let mut told = [0; TOLD];
+    told[..numbers.len()].copy_from_slice(numbers);
+    told
 }
 
-const MARK: u64 = 0xA5A5_A5A5_A5A5_A5A5;
+/// All ones between guards.
+fn told_row() -> Row<u64> {
+    Row::of(&[u64::MAX; TOLD], 0xA5A5_A5A5_A5A5_A5A5)
+}
 
-pub fn run(listing: &Row<u64>, on: &mut Registers, start: usize, budget: u32) -> Told<6> {
-    let mut row = Row::marked(6, MARK);
+fn told(row: &Row<u64>) -> Told {
+    Told(told_of(row.get()), row.is_intact())
+}
+
+pub fn run(listing: &Row<u64>, on: &mut Registers, start: usize, budget: u32) -> Told {
+    let mut row = told_row();
     let Registers { d, a, flags } = on;
     // SAFETY: every pointer is of a slice, with its own length or the length that the function takes; no two rows overlap.
     unsafe {
@@ -116,24 +125,14 @@ pub fn print(width: u8, listing: &Row<u64>, out: &mut Row<u8>) -> usize {
     unsafe { listing_print(width, words.as_ptr(), words.len(), out.as_mut_ptr(), out.len()) }
 }
 
-pub fn read(text: &[u8], lines: &mut Row<u32>) -> Told<4> {
-    let mut row = Row::marked(4, MARK);
-    // SAFETY: the text is a slice with its own length; the two other rows have the lengths that the function takes.
-    unsafe {
-        recipe_read(text.as_ptr(), text.len(), lines.get_mut().as_mut_ptr(), row.get_mut().as_mut_ptr());
-    }
-    told(&row)
-}
-
-pub fn translate(width: u8, count: usize, lines: &Row<u32>, listing: &mut Row<u64>) -> Told<3> {
-    let mut row = Row::marked(3, MARK);
+pub fn translate(text: &[u8], listing: &mut Row<u64>) -> Told {
+    let mut row = told_row();
     let slots = listing.get_mut();
-    // SAFETY: the listing has its own length, `lines` and `row` the lengths that the function takes; none overlap.
+    // SAFETY: text and listing are slices with their own lengths, `row` has the length that the function takes; none overlap.
     unsafe {
         recipe_translate(
-            width,
-            count,
-            lines.get().as_ptr(),
+            text.as_ptr(),
+            text.len(),
             slots.as_mut_ptr(),
             slots.len(),
             row.get_mut().as_mut_ptr(),
@@ -148,8 +147,8 @@ pub fn answer(text: &[u8], out: &mut Row<u8>) -> usize {
     unsafe { recipe_answer(text.as_ptr(), text.len(), out.as_mut_ptr(), out.len()) }
 }
 
-pub fn run_recipe(text: &[u8], on: &mut Registers) -> Told<5> {
-    let mut row = Row::marked(5, MARK);
+pub fn run_recipe(text: &[u8], on: &mut Registers) -> Told {
+    let mut row = told_row();
     let Registers { d, a, flags } = on;
     // SAFETY: the text is a slice with its own length; the other rows have the lengths that the function takes; none overlap.
     unsafe {

@@ -1,35 +1,37 @@
 //! What was tried, what was met, and what differs.
 
+use gromavelush::Refusal;
+use std::collections::BTreeMap;
+use std::iter::once;
+
 /// How many disagreements are printed whole; the rest are counted.
 const SHOWN: u64 = 5;
 
 /// The C functions and the safe ones, counted by calls.
-pub const CALLS: [&str; 14] = [
+pub const CALLS: [&str; 12] = [
     "alu_call",
     "listing_run",
     "listing_print",
-    "recipe_read",
     "recipe_translate",
     "recipe_answer",
     "recipe_run",
     "exec_..",
     "run, run_words",
     "print",
-    "read",
     "translate, translate_into",
     "answer",
     "run_text",
 ];
 
+/// How often each number was met.
+type Met = BTreeMap<u64, u64>;
+
 #[derive(Default)]
 pub struct Tally {
     calls: [u64; CALLS.len()],
-    /// By number; 0 is acceptance.
-    refusals: [u64; 11],
-    /// Finished, Budget, Trapped, Refused.
-    ends: [u64; 4],
-    /// Pass, Over, Short, Below.
-    classes: [u64; 4],
+    refusals: Met,
+    ends: Met,
+    classes: Met,
     differing: u64,
 }
 
@@ -40,16 +42,17 @@ impl Tally {
         }
     }
 
+    /// 0 is acceptance.
     pub fn refused(&mut self, number: u64) {
-        self.refusals[number as usize] += 1;
+        *self.refusals.entry(number).or_default() += 1;
     }
 
     pub fn ended(&mut self, end: u64) {
-        self.ends[end as usize] += 1;
+        *self.ends.entry(end).or_default() += 1;
     }
 
     pub fn class(&mut self, class: u64) {
-        self.classes[class as usize] += 1;
+        *self.classes.entry(class).or_default() += 1;
     }
 
     /// `text` describes a disagreement.
@@ -68,40 +71,55 @@ impl Tally {
 
     /// Adds another's counts.
     pub fn take(&mut self, other: &Tally) {
-        let add = |all: &mut [u64], of: &[u64]| all.iter_mut().zip(of).for_each(|(sum, count)| *sum += count);
-        add(&mut self.calls, &other.calls);
+        let add =
+            |all: &mut Met, of: &Met| of.iter().for_each(|(&at, count)| *all.entry(at).or_default() += count);
         add(&mut self.refusals, &other.refusals);
         add(&mut self.ends, &other.ends);
         add(&mut self.classes, &other.classes);
+        self.calls.iter_mut().zip(other.calls).for_each(|(sum, count)| *sum += count);
         self.differing += other.differing;
     }
 
-    fn counts(&self) -> [(&'static str, &[u64]); 3] {
+    /// What is counted by number, and the numbers that there are.
+    fn counts(&self) -> [(&'static str, &Met, Vec<u64>); 3] {
+        let refusals = Refusal::ALL.iter().map(|refusal| refusal.number().into());
         [
-            ("accepted, refused with 1 to 10", &self.refusals),
-            ("Finished, Budget, Trapped, Refused", &self.ends),
-            ("Pass, Over, Short, Below", &self.classes),
+            ("accepted (0), refused with", &self.refusals, once(0).chain(refusals).collect()),
+            ("Finished, Budget, Trapped, Refused", &self.ends, (0..4).collect()),
+            ("Pass, Over, Short, Below", &self.classes, (0..4).collect()),
         ]
+    }
+
+    /// What was never met, and what was met that there isn't.
+    fn faults(&self) -> Vec<String> {
+        let mut found = vec![];
+        for (names, met, numbers) in self.counts() {
+            let never = numbers.iter().filter(|number| !met.contains_key(number));
+            found.extend(never.map(|number| format!("NEVER MET: {number} of {names}")));
+            let unknown = met.keys().filter(|number| !numbers.contains(number));
+            found.extend(unknown.map(|number| format!("UNKNOWN: {number} of {names}")));
+        }
+        let uncalled = CALLS.iter().zip(self.calls).filter(|(_, calls)| *calls == 0);
+        found.extend(uncalled.map(|(name, _)| format!("NEVER CALLED: {name}")));
+        found
     }
 
     pub fn print(&self) {
         for (name, calls) in CALLS.iter().zip(self.calls) {
             println!("{calls:12} calls of {name}");
         }
-        for (names, counts) in self.counts() {
-            let counts: Vec<String> = counts.iter().map(u64::to_string).collect();
-            println!("{names}: {}", counts.join(" "));
+        for (names, met, _) in self.counts() {
+            let counts: Vec<String> =
+                met.iter().map(|(number, count)| format!("{number}: {count}")).collect();
+            println!("{names}: {}", counts.join(", "));
         }
-        for (names, counts) in self.counts() {
-            if counts.contains(&0) {
-                println!("NEVER MET: one of {names}");
-            }
+        for fault in self.faults() {
+            println!("{fault}");
         }
         println!("{} calls, {} differ", self.calls.iter().sum::<u64>(), self.differing);
     }
 
     pub fn is_good(&self) -> bool {
-        let all_met = self.counts().iter().all(|(_, counts)| !counts.contains(&0));
-        self.differing == 0 && all_met && !self.calls.contains(&0)
+        self.differing == 0 && self.faults().is_empty()
     }
 }

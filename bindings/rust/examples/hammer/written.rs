@@ -1,11 +1,12 @@
-//! Texts, sound and damaged: read, answered into rows of any length, run.
+//! Texts, sound and damaged: translated, answered into rows of any length, run.
 
 use crate::cases::Random;
-use crate::raw::{self, Registers, Row};
-use crate::recipes::{self, LINES_MAX, Line, PRINT_MAX, Recipe, Refused, STEPS_MAX, Verb};
+use crate::raw::{self, Registers, Row, TOLD, told_of};
+use crate::recipes::{self, PRINT_MAX, STEPS_MAX, Verb};
 use crate::steps::{Flags, State};
 use crate::tally::Tally;
 use crate::texts::KINDS;
+use crate::translated::{self, Wanted};
 use crate::tuned;
 use gromavelush as safe;
 
@@ -16,28 +17,6 @@ pub fn some_state(random: &mut Random) -> State {
 
 pub fn safe_state(state: &State) -> safe::State {
     safe::State { d: state.d, a: state.a, flags: safe::Flags::of(state.flags.ccr()) }
-}
-
-fn try_reading(text: &[u8], want: &Result<Recipe, Refused>, tally: &mut Tally) {
-    let mut lines = Row::marked(LINES_MAX, 0xA5A5_A5A5);
-    let raw::Told(told, whole) = raw::read(text, &mut lines);
-    let (refused, recipe) = match want {
-        Ok(recipe) => (Refused { number: 0, line: 0 }, *recipe),
-        Err(refused) => (*refused, Recipe::empty(1)),
-    };
-    let should = [refused.number.into(), refused.line as u64, recipe.width.into(), recipe.count as u64];
-    let words: Vec<u32> = recipe.lines.iter().map(Line::word).collect();
-    tally.called("recipe_read");
-    tally.refused(refused.number.into());
-    tally.agrees(told == should && lines.get() == words && whole && lines.is_intact(), || {
-        format!("recipe_read of \"{}\": {told:?}, wanted {should:?}", text.escape_ascii())
-    });
-    let got = safe::read(text).map(|recipe| (recipe.width, recipe.to_string()));
-    let got = got.map_err(|refused| (refused.refusal.number(), refused.line));
-    let sound = || (recipe.width, String::from_utf8_lossy(text).into_owned());
-    let should = if want.is_ok() { Ok(sound()) } else { Err((refused.number, refused.line)) };
-    tally.called("read");
-    tally.agrees(got == should, || format!("read of \"{}\": {got:?}", text.escape_ascii()));
 }
 
 /// Into a row that is too short by some bytes, or just long enough, or long enough for any.
@@ -76,21 +55,23 @@ fn try_answer(random: &mut Random, text: &[u8], tally: &mut Tally) {
 }
 
 /// What document 01 says of a recipe on a state: all that is told, and the state after it.
-fn ran(recipe: &Result<Recipe, Refused>, mut state: State) -> ([u64; 5], State, u8) {
+fn ran(recipe: &Wanted, mut state: State) -> ([u64; TOLD], State, u8) {
     let recipe = match recipe {
         Ok(recipe) => recipe,
         Err(refused) => {
-            return ([refused.number.into(), refused.line as u64, 31, 0, 0], state, state.flags.ccr());
+            let told = told_of(&[refused.number.into(), refused.line as u64, 31]);
+            return (told, state, state.flags.ccr());
         }
     };
     let listing = recipes::translate(recipe, STEPS_MAX).unwrap_or_default();
     let ran = tuned::run(&listing, &mut state, 0, u32::MAX);
     let last = recipe.lines[..recipe.count].last().map(|line| line.verb);
     let promised = if matches!(last, None | Some(Verb::Add | Verb::Sub | Verb::Neg)) { 31 } else { 16 };
-    ([0, 0, promised, ran.steps.into(), ran.clocks], state, state.flags.ccr() & promised as u8)
+    let told = told_of(&[0, 0, promised, ran.steps.into(), ran.clocks]);
+    (told, state, state.flags.ccr() & promised as u8)
 }
 
-fn try_run(random: &mut Random, text: &[u8], recipe: &Result<Recipe, Refused>, tally: &mut Tally) {
+fn try_run(random: &mut Random, text: &[u8], recipe: &Wanted, tally: &mut Tally) {
     let before = some_state(random);
     let (should, after, flags) = ran(recipe, before);
     let dirt = random.bits() as u8 & 0xE0;
@@ -108,9 +89,10 @@ fn try_run(random: &mut Random, text: &[u8], recipe: &Result<Recipe, Refused>, t
         Ok(run) => {
             let all = run.flags.map_or(16, |_| 31);
             let same = run.flags.is_none_or(|told| told.ccr() == flags);
-            run.x == (flags & 16 != 0) && same && [0, 0, all, run.steps.into(), run.clocks] == should
+            let told = told_of(&[0, 0, all, run.steps.into(), run.clocks]);
+            run.x == (flags & 16 != 0) && same && told == should
         }
-        Err(refused) => [refused.refusal.number().into(), refused.line as u64, 31, 0, 0] == should,
+        Err(refused) => told_of(&[refused.refusal.number().into(), refused.line as u64, 31]) == should,
     };
     tally.called("run_text");
     tally.agrees(agrees && left, || format!("run_text of \"{}\": {got:?}", text.escape_ascii()));
@@ -120,7 +102,8 @@ pub fn try_one(random: &mut Random, tally: &mut Tally) {
     let kind = random.below(KINDS.len());
     let text = KINDS[kind].text(random).into_boxed_slice();
     let recipe = recipes::read(&text);
-    try_reading(&text, &recipe, tally);
+    translated::try_raw(random, &text, &recipe, tally);
+    translated::try_whole(&text, &recipe, tally);
     try_answer(random, &text, tally);
     try_run(random, &text, &recipe, tally);
 }

@@ -81,10 +81,24 @@ impl Vector {
         assert_eq!(state, State { d: after.d, a: before.a, flags });
     }
 
+    /// Its recipe, made by hand of the fields.
+    fn recipe(&self) -> Recipe {
+        let text = String::from_utf8_lossy(&self.text);
+        let mut lines = text.lines().map(|line| line.split('\t').collect::<Vec<&str>>());
+        let number =
+            |fields: &[&str], at: usize| fields.get(at).map_or(0, |field| field.parse().expect("a digit"));
+        let width = number(&lines.next().expect("a width line"), 1);
+        let line = |fields: Vec<&str>| {
+            let verb = Verb::ALL.into_iter().find(|verb| verb.to_string() == fields[0]).expect("a verb");
+            Line { verb, a: number(&fields, 1), b: number(&fields, 2) }
+        };
+        Recipe { width, lines: lines.map(line).collect() }
+    }
+
     /// Its listing, and the same halted in the middle and continued.
     fn run_listing(&self, recipe: &Recipe) {
         let Vector { before, steps, clocks, middle, .. } = self;
-        let listing = translate(recipe).expect("it is sound");
+        let listing = translate(&self.text).expect("it is sound");
         let (mut whole, mut halted) = (*before, *before);
         let ran = run(&listing, &mut whole, 0, u32::MAX);
         let next = listing.steps().len();
@@ -104,7 +118,7 @@ impl Vector {
 fn recipes_do_what_the_reading_in_python_says() {
     let mut met = HashSet::new();
     for vector in vectors(10_000, 20) {
-        let recipe = read(&vector.text).expect("it is sound");
+        let recipe = vector.recipe();
         assert_eq!(recipe.to_string().as_bytes(), vector.text);
         vector.run_whole();
         vector.run_listing(&recipe);

@@ -11,10 +11,19 @@ const STATE: State = State {
     flags: Flags { x: true, n: false, z: true, v: false, c: true },
 };
 
-/// A text's refusal by the reader, by what is printed, and by a run that leaves the state.
+/// What a slot holds that nothing is laid into.
+const MARK: Step = Step { size: Size::Word, form: Form::Chk(D(200), D(100)) };
+
+/// A text's refusal by the translator, which leaves the slots, as many or few as there are; by what is printed; and by a run
+/// that leaves the state.
 fn refused(text: &[u8], number: u8, line: usize) {
-    let refused = read(text).expect_err("it is refused");
+    let refused = translate(text).expect_err("it is refused");
     assert_eq!((refused.refusal.number(), refused.line), (number, line), "{}", text.escape_ascii());
+    for length in [0, 1, RECIPE_STEPS] {
+        let mut slots = vec![MARK; length];
+        assert_eq!(translate_into(text, &mut slots), Err(refused));
+        assert_eq!(slots, vec![MARK; length]);
+    }
     assert_eq!(answer(text), format!("refused\t{number}\t{line}\n"));
     let mut state = STATE;
     assert_eq!(run_text(text, &mut state), Err(refused));
@@ -109,62 +118,88 @@ fn texts_are_printed_or_refused() {
         assert_eq!(answer(&row.text), printed, "{}", row.name);
         match printed.trim_end().split('\t').collect::<Vec<_>>()[..] {
             ["refused", number, line] => refused(&row.text, number.parse().unwrap(), line.parse().unwrap()),
-            _ => assert!(read(&row.text).is_ok(), "{}", row.name),
+            _ => assert!(translate(&row.text).is_ok(), "{}", row.name),
         }
     }
 }
 
+/// The text of a recipe made by hand.
+fn by_hand(width: u8, lines: &[Line]) -> Vec<u8> {
+    Recipe { width, lines: lines.to_vec() }.to_string().into_bytes()
+}
+
+fn line(verb: Verb, a: u8, b: u8) -> Line {
+    Line { verb, a, b }
+}
+
 #[test]
 fn number_4_widths_by_hand() {
-    for width in [0, 3, 5, 8, 255] {
-        let recipe = Recipe { width, lines: vec![] };
-        assert_eq!(translate(&recipe), Err(Refused { refusal: Refusal::WidthLine, line: 1 }));
+    for width in (0..=u8::MAX).filter(|width| ![1, 2, 4].contains(width)) {
+        refused(&by_hand(width, &[]), 4, 1);
+        refused(&by_hand(width, &[line(Verb::Copy, 9, 9)]), 4, 1);
+    }
+}
+
+/// A number above 9 isn't one digit.
+#[test]
+fn number_5_numbers_by_hand() {
+    for number in 10..=u8::MAX {
+        refused(&by_hand(1, &[line(Verb::Clear, 0, 0), line(Verb::Neg, number, 0)]), 5, 3);
+        refused(&by_hand(1, &[line(Verb::Copy, 1, number)]), 5, 2);
+        refused(&by_hand(4, &[line(Verb::Sub, number, number)]), 5, 2);
     }
 }
 
 #[test]
 fn numbers_6_and_7_by_hand() {
-    let told = |width, line| translate(&Recipe { width, lines: vec![line] }).expect_err("it is refused");
-    let line = |verb, a, b| Line { verb, a, b };
-    let refused = |refusal| Refused { refusal, line: 2 };
-    assert_eq!(told(4, line(Verb::Clear, 2, 0)), refused(Refusal::NoSuchNumber));
-    assert_eq!(told(1, line(Verb::Add, 0, 255)), refused(Refusal::NoSuchNumber));
-    assert_eq!(told(2, line(Verb::Copy, 9, 9)), refused(Refusal::NoSuchNumber));
-    assert_eq!(told(2, line(Verb::Copy, 1, 1)), refused(Refusal::OntoItself));
-    let kept = Recipe { width: 1, lines: vec![line(Verb::Neg, 7, 255)] };
+    for width in [1, 2, 4] {
+        for number in 8 / width..=9 {
+            for verb in Verb::ALL {
+                refused(&by_hand(width, &[line(Verb::Up, 0, 0), line(verb, number, number)]), 6, 3);
+            }
+            refused(&by_hand(width, &[line(Verb::Add, 0, number)]), 6, 2);
+        }
+        for number in 0..8 / width {
+            refused(&by_hand(width, &[line(Verb::Copy, number, number)]), 7, 2);
+        }
+    }
+    let kept = by_hand(1, &[line(Verb::Neg, 7, 255)]);
     assert_eq!(translate(&kept).map(|listing| listing.steps().len()), Ok(1));
 }
 
+/// At the line too many, whatever it is; a line before it is refused first.
 #[test]
 fn number_8_too_many_lines() {
-    assert_eq!(read(&copies(1, MOST_LINES)).map(|recipe| recipe.lines.len()), Ok(MOST_LINES));
+    assert_eq!(translate(&copies(1, MOST_LINES)).map(|listing| listing.steps().len()), Ok(2 * MOST_LINES));
     for count in [MOST_LINES + 1, MOST_LINES + 2, 0x100, 5000] {
-        let lines = vec![Line { verb: Verb::Copy, a: 9, b: 9 }; count];
-        let refused = translate(&Recipe { width: 1, lines });
-        assert_eq!(refused, Err(Refused { refusal: Refusal::TooManyLines, line: 0 }));
+        refused(&copies(1, count), 8, MOST_LINES + 2);
+        let mut lines = vec![line(Verb::Not, 7, 0); MOST_LINES];
+        lines.resize(count, line(Verb::Copy, 9, 99));
+        refused(&by_hand(1, &lines), 8, MOST_LINES + 2);
+        lines[MOST_LINES - 1] = line(Verb::Copy, 3, 3);
+        refused(&by_hand(1, &lines), 7, MOST_LINES + 1);
     }
 }
 
 #[test]
 fn number_9_slots_and_slots_past_the_listing() {
-    let mark = Step { size: Size::Word, form: Form::Chk(D(200), D(100)) };
-    let recipe = read(&copies(4, MOST_LINES)).expect("as many lines as there may be");
+    let text = copies(4, MOST_LINES);
     for length in [0, 1, RECIPE_STEPS - 1] {
-        let mut slots = vec![mark; length];
-        let refused = translate_into(&recipe, &mut slots);
+        let mut slots = vec![MARK; length];
+        let refused = translate_into(&text, &mut slots);
         assert_eq!(refused, Err(Refused { refusal: Refusal::NoSpace, line: 0 }));
-        assert_eq!(slots, vec![mark; length]);
+        assert_eq!(slots, vec![MARK; length]);
     }
     for length in [RECIPE_STEPS, RECIPE_STEPS + 1, RECIPE_STEPS + 44] {
-        let mut slots = vec![mark; length];
-        assert_eq!(translate_into(&recipe, &mut slots), Ok(RECIPE_STEPS));
-        assert_eq!(slots[RECIPE_STEPS..], vec![mark; length - RECIPE_STEPS]);
-        assert_eq!(slots[..RECIPE_STEPS], *translate(&recipe).expect("the same").steps());
+        let mut slots = vec![MARK; length];
+        assert_eq!(translate_into(&text, &mut slots), Ok(RECIPE_STEPS));
+        assert_eq!(slots[RECIPE_STEPS..], vec![MARK; length - RECIPE_STEPS]);
+        assert_eq!(slots[..RECIPE_STEPS], *translate(&text).expect("the same").steps());
     }
-    let mut slots = [mark; 5];
-    assert_eq!(translate_into(&read(EXAMPLE).expect("a recipe"), &mut slots), Ok(4));
-    assert_eq!(slots[4], mark);
-    assert!(!slots[..4].contains(&mark));
+    let mut slots = [MARK; 5];
+    assert_eq!(translate_into(EXAMPLE, &mut slots), Ok(4));
+    assert_eq!(slots[4], MARK);
+    assert!(!slots[..4].contains(&MARK));
 }
 
 #[test]
@@ -189,10 +224,12 @@ fn number_10_start_places() {
 
 #[test]
 fn each_number_has_its_words() {
-    for (at, refusal) in Refusal::ALL.into_iter().enumerate() {
-        assert_eq!(usize::from(refusal.number()), at + 1);
-        assert!(refusal.to_string().starts_with(&format!("refused with {}: ", at + 1)));
+    let numbers: Vec<u8> = Refusal::ALL.iter().map(|refusal| refusal.number()).collect();
+    assert_eq!(numbers, (1..=10).collect::<Vec<u8>>(), "document 01's");
+    for (refusal, number) in Refusal::ALL.iter().zip(numbers) {
+        assert!(refusal.to_string().starts_with(&format!("refused with {number}: ")));
     }
-    let refused = read(b"width\t1\nneg\t8\n").expect_err("there is no number 8");
+    let refused = translate(b"width\t1\nneg\t8\n").expect_err("there is no number 8");
     assert!(refused.to_string().starts_with("line 2: refused with 6: there is no such number"));
+    assert!(Refusal::TooManyLines.to_string().contains(&format!(" {MOST_LINES} lines")));
 }

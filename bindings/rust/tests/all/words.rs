@@ -63,10 +63,10 @@ fn steps_print_as_the_library_prints_them() {
 fn document_01_s_example_is_printed_exactly() {
     let should = "width\t2\t4\n0\tADD\tL\tD0\tD2\n1\tADDX\tL\tD1\tD3\n2\tNEG\tL\t-\tD2\n3\tNEGX\tL\t-\tD3\nclocks\t20\n";
     assert_eq!(answer(EXAMPLE), should);
-    let recipe = read(EXAMPLE).expect("it is a recipe");
-    let listing = translate(&recipe).expect("it is sound");
-    assert_eq!(print(recipe.width, &listing), should);
-    assert_eq!(recipe.to_string().as_bytes(), EXAMPLE);
+    let listing = translate(EXAMPLE).expect("it is sound");
+    assert_eq!(print(2, &listing), should);
+    let lines = vec![Line { verb: Verb::Add, a: 0, b: 1 }, Line { verb: Verb::Neg, a: 1, b: 0 }];
+    assert_eq!(Recipe { width: 2, lines }.to_string().as_bytes(), EXAMPLE);
 }
 
 /// The longest line that can be printed, as often as it can be: nothing is left off.
