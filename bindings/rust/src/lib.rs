@@ -5,12 +5,12 @@
 //! - single operations on values and flags: [`exec_add`], [`exec_addx`], [`exec_chk`] and 27 more;
 //! - a step machine: a [`State`] of registers and flags, a [`Listing`] of [`Step`]s, and [`run`], which can be halted after
 //!   any step and continued;
-//! - counter recipes, short texts on whole numbers of one, two or four long words: [`translate`], [`print`], [`answer`] and
-//!   [`run_text`]; a [`Recipe`] made by hand prints as its text.
+//! - counter recipes, short texts on whole numbers of one, two or four long words: [`translate`], [`print`](fn@print),
+//!   [`answer`] and [`run_text`]; a [`Recipe`] made by hand prints as its text.
 //!
 //! What a function does not take it refuses, with one of document 01's numbers ([`Refusal`]), and changes nothing. No
-//! function panics on any input; only a library of another version, which tells what this package doesn't know, makes one
-//! panic.
+//! function panics on any input; it does where the library that is linked is of another version, and tells what this
+//! package doesn't know.
 //!
 //! Results, flags, figures, refusals, listings and printed bytes are proved in the library. This package carries numbers
 //! there and back; it is tested, not proved. The README in `bindings/` says how to build and link it.
