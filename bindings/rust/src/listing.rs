@@ -170,3 +170,18 @@ pub fn run(listing: &Listing, state: &mut State, start: usize, budget: u32) -> R
 pub fn run_words(words: &[u64], state: &mut State, start: usize, budget: u32) -> Ran {
     Ran::told(state.lent(|registers| sys::listing_run(words, registers, start, budget)))
 }
+
+#[cfg(test)]
+mod tests {
+    use super::*;
+    use std::panic::catch_unwind;
+
+    /// An end, a trap and a refusal that there isn't.
+    #[test]
+    fn what_is_not_known_is_not_guessed() {
+        for (end, which) in [(4, 0), (u64::MAX, 0), (2, 0), (2, 4), (3, 0), (3, 256 + 2), (3, u64::MAX)] {
+            let told = [end, which, 0, 0, 0, 0, 0, 0];
+            assert!(catch_unwind(|| Ran::told(told)).is_err(), "{told:?}");
+        }
+    }
+}
