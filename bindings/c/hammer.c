@@ -233,10 +233,13 @@ static void try_answer(const uint8_t *text, size_t length) {
     count(&refusals, told[0]);
     agrees(told[2] <= slots && (told[0] == 0 || told[2] == 0), "the number of steps");
     agrees((told[1] == 0) == (told[0] == 0 || told[0] == 9), "the line of a refusal");
-    for (i = (size_t)told[2]; i < slots; i++) agrees(listing[i] == before[i], "a slot past the steps");
+    for (i = 0; i < slots; i++)
+        if (i < told[2]) agrees(listing[i] >> 40 == 0, "the reserved bytes of a step");
+        else agrees(listing[i] == before[i], "a slot past the steps");
     wrote = recipe_answer(text, length, out, room);
     agrees(wrote <= room, "more is answered than there is room for");
-    if (told[0] != 9) agrees(printed(text, listing, told, again, room) == wrote && !memcmp(out, again, wrote), "an answer");
+    if (told[0] == 9) agrees(wrote == 0 || *out == 'w', "too few slots of a text that is refused");
+    else agrees(printed(text, listing, told, again, room) == wrote && !memcmp(out, again, wrote), "an answer");
     free(out), free(again), free(listing), free(before), forget(told);
 }
 

@@ -99,6 +99,7 @@ impl Vector {
     fn run_listing(&self, recipe: &Recipe) {
         let Vector { before, steps, clocks, middle, .. } = self;
         let listing = translate(&self.text).expect("it is sound");
+        assert!(listing.words().iter().copied().eq(listing.steps().iter().map(|step| step.word())));
         let (mut whole, mut halted) = (*before, *before);
         let ran = run(&listing, &mut whole, 0, u32::MAX);
         let next = listing.steps().len();
