@@ -1,13 +1,14 @@
 -- Laws of a packed answer. Assumes nothing.
---     figure-small   every figure of document 01 is below 2 ^ 8, so that the packed one is the whole figure
---     unpacked       a packed answer reads back: result, flags, figure, refusal number and class; `call-reads`: so does what `alu_call` answers
+--     answer-fits   every figure of document 01 is below 2 ^ 8, so that the packed one is the whole figure; and every result has 32 bits
+--     unpacked      a packed answer reads back: result, flags, figure, refusal number and class
+--     call-reads    so does what `alu_call` answers
 use Prim.Native.Nat.{ℕ, _+_, _*_, _/_, _%_, _^_, _<_, _≤_}
 use mathlib.Core.Path.{_≡_, refl, sym, ap, _∙_}
-use mathlib.Core.Bool.{Bool, true, false, cond}
+use mathlib.Core.Bool.{Bool, true, false, cond, false≢true}
 use mathlib.Core.List.{List, [], _∷_}
 use native.Mathlib.Omega.{arith}
 use borrow.Author.Tests.{ltb-false}
-use lib.Dec.{eqb, ltb, lit<}
+use lib.Dec.{eqb, ltb, lit<, lit≤}
 use Rattle.alu.specs.declared.types.Size.{Size}
 use Rattle.alu.specs.declared.types.Size.the-variants.{Byte, Word, Long}
 use Rattle.alu.specs.declared.types.Flags.{Flags}
@@ -21,35 +22,70 @@ use Rattle.alu.specs.declared.shift_rotate.ShiftOp.the-variants.{Asl, Asr, Lsl,
 use Rattle.alu.specs.declared.bit_manip.BitOp.{BitOp}
 use Rattle.alu.specs.declared.bit_manip.BitOp.the-variants.{Btst, Bset, Bclr, Bchg}
 use Rattle.alu.specs.Bits.{bitsOf, digit}
-use Rattle.alu.specs.Answers.{numberOf, classOf, refused, figure, chkFigure}
-use Rattle.alu.specs.Arith.{checkOf}
+use Rattle.alu.specs.Answers.{numberOf, classOf, refused, figure, unlessByte, chkFigure}
+use Rattle.alu.specs.Arith.{extOf, checkOf, chkOf}
 use Rattle.alu.specs.Shifts.{moved, through, shiftOf}
 use Rattle.alu.specs.Bitops.{bitFigure, bitopOf}
 use Rattle.alu.proofs.Bounds.{digit-le, number-le, class-le, figure-le}
+use Rattle.alu.proofs.Masked.{handsBack, results}
 use Rattle.calls.specs.declared.Found.{Found}
 use Rattle.calls.specs.declared.Found.the-variants.{Is, NoSize}
-use Rattle.calls.specs.Packed.{Row, operations, numberIn, done, chosen, answerOf, askedOf, callOf, sizeOf, flagsOf, ccrOf, packed}
+use Rattle.calls.specs.Packed.{Row, check, operations, numberIn, done, chosen, answerOf, askedOf, callOf, sizeOf, flagsOf, ccrOf, packed}
 
--- ---- figures
+-- ---- what an operation answers fits its place: a result of 32 bits where the destination has as many, and the figure
 
--- a figure at each size; the figures of a row, and of a table
-abbrev EachSize : (Size → ℕ) → Type 0
-EachSize c = (c Byte < 2 ^ 8) × (c Word < 2 ^ 8) × (c Long < 2 ^ 8)
+abbrev pub Fits : Checked → Type 0
+Fits k = (k .answer .result < 2 ^ 32) × (k .answer .clocks < 2 ^ 8)
 
-abbrev Small : Row → Type 0
-Small r = (s d : ℕ) (f : Flags) → EachSize (λ size. done r size s d f .answer .clocks)
+abbrev RowFits : Row → Type 0
+RowFits r = (size : Size) (s d : ℕ) (f : Flags) → d < 2 ^ 32 → Fits (done r size s d f)
 
-abbrev AllSmall : List Row → Type 0
-AllSmall [] = Unit {0}
-AllSmall (r ∷ rs) = Small r × AllSmall rs
+abbrev RowsFit : List Row → Type 0
+RowsFit [] = Unit {0}
+RowsFit (r ∷ rs) = RowFits r × RowsFit rs
 
-each : (c : Size → ℕ) → ((size : Size) → c size < 2 ^ 8) → EachSize c
-each c h = (h Byte, h Word, h Long)
+long : (size : Size) (r : ℕ) → r < 2 ^ bitsOf size → r < 2 ^ 32
+long Byte r h = omega arith
+long Word r h = omega arith
+long Long r h = h
 
-pick : (c : Size → ℕ) → EachSize c → (size : Size) → c size < 2 ^ 8
-pick c h Byte = h .0
-pick c h Word = h .1
-pick c h Long = h .2
+-- figures of a size, and of an operation without a byte form
+two-of : (size : Size) (more : ℕ) → more ≤ 8 → figure size 4 more < 2 ^ 8
+two-of size more h = omega (arith, figure-le size 4 more 8 (lit≤ tt) h)
+
+unless : (size : Size) (f : Flags) (a : Answer) → a .clocks < 2 ^ 8 → unlessByte size f a .clocks < 2 ^ 8
+unless Byte f a h = lit< tt
+unless Word f a h = h
+unless Long f a h = h
+
+unless-result : (size : Size) (f : Flags) (a : Answer) → a .result < 2 ^ 32 → unlessByte size f a .result < 2 ^ 32
+unless-result Byte f a h = lit< tt
+unless-result Word f a h = h
+unless-result Long f a h = h
+
+ext-result : (size : Size) (d : ℕ) (f : Flags) → d < 2 ^ 32 → extOf size d f .result < 2 ^ 32
+ext-result Byte d f h = lit< tt
+ext-result Word d f h = results .ext-word-below d f h
+ext-result Long d f h = results .ext-long d f
+
+-- shifts: by 0 four of them hand the destination back
+handed : (op : ShiftOp) (size : Size) (count d : ℕ) (f : Flags) → handsBack op count ≡ true → shiftOf op size count d f .result ≡ d
+unfolding shiftOf
+handed Asl size count d f e = rw e
+handed Asr size count d f e = rw e
+handed Lsl size count d f e = rw e
+handed Lsr size count d f e = rw e
+handed Rol size count d f e = absurd (false≢true e)
+handed Ror size count d f e = absurd (false≢true e)
+handed Roxl size count d f e = absurd (false≢true e)
+handed Roxr size count d f e = absurd (false≢true e)
+
+shift-result : (op : ShiftOp) (size : Size) (count d : ℕ) (f : Flags) → d < 2 ^ 32 → shiftOf op size count d f .result < 2 ^ 32
+shift-result op size count d f h = go (handsBack op count) refl
+  where
+    go : (t : Bool) → handsBack op count ≡ t → shiftOf op size count d f .result < 2 ^ 32
+    go true e = rw (handed op size count d f e) h
+    go false e = long size (shiftOf op size count d f .result) (results .shift op size count d f e)
 
 positions : (size : Size) (k : ℕ) → k < 64 → figure size 6 8 + 2 * k < 2 ^ 8
 positions size k h = omega (arith, figure-le size 6 8 8 (omega arith) (omega arith))
@@ -93,56 +129,61 @@ check-small Over = lit< tt
 check-small Short = lit< tt
 check-small Below = lit< tt
 
+chk-fits : RowFits (check 0x1d chkOf)
+chk-fits Byte s d f h = (lit< tt, lit< tt)
+chk-fits Word s d f h = (h, check-small (checkOf 16 s d))
+chk-fits Long s d f h = (lit< tt, lit< tt)
+
 -- the rows in their order
-all-small : AllSmall operations
+rows-fit : RowsFit operations
 unfolding operations
-all-small =
-    (λ s d f. (lit< tt, lit< tt, lit< tt),
-    (λ s d f. (lit< tt, lit< tt, lit< tt),
-    (λ s d f. (lit< tt, lit< tt, lit< tt),
-    (λ s d f. (lit< tt, lit< tt, lit< tt),
-    (λ s d f. (lit< tt, lit< tt, lit< tt),
-    (λ s d f. (lit< tt, lit< tt, lit< tt),
-    (λ s d f. (lit< tt, lit< tt, lit< tt),
-    (λ s d f. (lit< tt, lit< tt, lit< tt),
-    (λ s d f. (lit< tt, lit< tt, lit< tt),
-    (λ s d f. (lit< tt, lit< tt, lit< tt),
-    (λ s d f. (lit< tt, lit< tt, lit< tt),
-    (λ s d f. (lit< tt, lit< tt, lit< tt),
-    (λ s d f. (lit< tt, lit< tt, lit< tt),
-    (λ s d f. (lit< tt, lit< tt, lit< tt),
-    (λ s d f. (lit< tt, lit< tt, lit< tt),
-    (λ s d f. (lit< tt, lit< tt, lit< tt),
-    (λ s d f. (lit< tt, lit< tt, lit< tt),
-    (λ s d f. each (λ size. shiftOf Asl size s d f .clocks) (λ size. shift-small Asl size s d f),
-    (λ s d f. each (λ size. shiftOf Asr size s d f .clocks) (λ size. shift-small Asr size s d f),
-    (λ s d f. each (λ size. shiftOf Lsl size s d f .clocks) (λ size. shift-small Lsl size s d f),
-    (λ s d f. each (λ size. shiftOf Lsr size s d f .clocks) (λ size. shift-small Lsr size s d f),
-    (λ s d f. each (λ size. shiftOf Rol size s d f .clocks) (λ size. shift-small Rol size s d f),
-    (λ s d f. each (λ size. shiftOf Ror size s d f .clocks) (λ size. shift-small Ror size s d f),
-    (λ s d f. each (λ size. shiftOf Roxl size s d f .clocks) (λ size. shift-small Roxl size s d f),
-    (λ s d f. each (λ size. shiftOf Roxr size s d f .clocks) (λ size. shift-small Roxr size s d f),
-    (λ s d f. each (λ size. bitopOf Btst size s d f .clocks) (λ size. bit-small Btst size s d f),
-    (λ s d f. each (λ size. bitopOf Bset size s d f .clocks) (λ size. bit-small Bset size s d f),
-    (λ s d f. each (λ size. bitopOf Bclr size s d f .clocks) (λ size. bit-small Bclr size s d f),
-    (λ s d f. each (λ size. bitopOf Bchg size s d f .clocks) (λ size. bit-small Bchg size s d f),
-    (λ s d f. (lit< tt, check-small (checkOf 16 s d), lit< tt), tt))))))))))))))))))))))))))))))
+rows-fit =
+    (λ size s d f h. (long size _ (results .add size s d f), lit< tt),
+    (λ size s d f h. (long size _ (results .sub size s d f), lit< tt),
+    (λ size s d f h. (h, lit< tt),
+    (λ size s d f h. (long size _ (results .addx size s d f), lit< tt),
+    (λ size s d f h. (long size _ (results .subx size s d f), lit< tt),
+    (λ size s d f h. (results .adda size s d f, unless size f _ (lit< tt)),
+    (λ size s d f h. (results .suba size s d f, unless size f _ (lit< tt)),
+    (λ size s d f h. (unless-result size f _ h, unless size f _ (lit< tt)),
+    (λ size s d f h. (long size _ (results .addq size s d f), two-of size 8 (lit≤ tt)),
+    (λ size s d f h. (long size _ (results .subq size s d f), two-of size 8 (lit≤ tt)),
+    (λ size s d f h. (results .addq-address size s d f, unless size f _ (lit< tt)),
+    (λ size s d f h. (results .subq-address size s d f, unless size f _ (lit< tt)),
+    (λ size s d f h. (long size _ (results .clr size s d f), two-of size 6 (lit≤ tt)),
+    (λ size s d f h. (long size _ (results .neg size s d f), two-of size 6 (lit≤ tt)),
+    (λ size s d f h. (long size _ (results .negx size s d f), two-of size 6 (lit≤ tt)),
+    (λ size s d f h. (long size _ (results .not size s d f), two-of size 6 (lit≤ tt)),
+    (λ size s d f h. (ext-result size d f h, unless size f _ (lit< tt)),
+    (λ size s d f h. (shift-result Asl size s d f h, shift-small Asl size s d f),
+    (λ size s d f h. (shift-result Asr size s d f h, shift-small Asr size s d f),
+    (λ size s d f h. (shift-result Lsl size s d f h, shift-small Lsl size s d f),
+    (λ size s d f h. (shift-result Lsr size s d f h, shift-small Lsr size s d f),
+    (λ size s d f h. (shift-result Rol size s d f h, shift-small Rol size s d f),
+    (λ size s d f h. (shift-result Ror size s d f h, shift-small Ror size s d f),
+    (λ size s d f h. (shift-result Roxl size s d f h, shift-small Roxl size s d f),
+    (λ size s d f h. (shift-result Roxr size s d f h, shift-small Roxr size s d f),
+    (λ size s d f h. (results .bitop Btst size s d f h, bit-small Btst size s d f),
+    (λ size s d f h. (results .bitop Bset size s d f h, bit-small Bset size s d f),
+    (λ size s d f h. (results .bitop Bclr size s d f h, bit-small Bclr size s d f),
+    (λ size s d f h. (results .bitop Bchg size s d f h, bit-small Bchg size s d f),
+    (chk-fits, tt))))))))))))))))))))))))))))))
 
-chosen-small : (rows : List Row) → AllSmall rows → (op : ℕ) (size : Size) (s d : ℕ) (f : Flags) → chosen rows op size s d f .answer .clocks < 2 ^ 8
+chosen-fits : (rows : List Row) → RowsFit rows → (op : ℕ) (size : Size) (s d : ℕ) (f : Flags) → d < 2 ^ 32 → Fits (chosen rows op size s d f)
 unfolding chosen
-chosen-small [] a op size s d f = lit< tt
-chosen-small (r ∷ rs) a op size s d f = go (eqb op (numberIn r)) (chosen-small rs (a .1) op size s d f)
+chosen-fits [] a op size s d f h = (lit< tt, lit< tt)
+chosen-fits (r ∷ rs) a op size s d f h = go (eqb op (numberIn r)) (chosen-fits rs (a .1) op size s d f h)
   where
-    go : (t : Bool) → chosen rs op size s d f .answer .clocks < 2 ^ 8 → cond t (done r size s d f) (chosen rs op size s d f) .answer .clocks < 2 ^ 8
-    go true h = pick (λ size. done r size s d f .answer .clocks) (a .0 s d f) size
-    go false h = h
+    go : (t : Bool) → Fits (chosen rs op size s d f) → Fits (cond t (done r size s d f) (chosen rs op size s d f))
+    go true k = a .0 size s d f h
+    go false k = k
 
-pub figure-small : (op : ℕ) (size : Size) (s d : ℕ) (f : Flags) → answerOf op size s d f .answer .clocks < 2 ^ 8
-figure-small op size s d f = chosen-small operations all-small op size s d f
+pub answer-fits : (op : ℕ) (size : Size) (s d : ℕ) (f : Flags) → d < 2 ^ 32 → Fits (answerOf op size s d f)
+answer-fits op size s d f h = chosen-fits operations rows-fit op size s d f h
 
 -- ---- there and back
 
--- the parts of a packed answer n. A result is 32 bits: that of every answer of the code is
+-- the parts of a packed answer n
 pub record Reads (k : Checked) (n : ℕ) : Type 0 where
   pub result : n % 2 ^ 32 ≡ k .answer .result
   pub flags : flagsOf (n / 2 ^ 32 % 2 ^ 8) ≡ k .answer .flags
@@ -191,9 +232,11 @@ flags-back f =
       set (f .c) {n = ccrOf f / 1 % 2} (omega arith),
     )
 
-pub unpacked : (k : Checked) → k .answer .result < 2 ^ 32 → k .answer .clocks < 2 ^ 8 → Reads k (packed k)
-unpacked k r c =
+pub unpacked : (k : Checked) → Fits k → Reads k (packed k)
+unpacked k fits =
     let a = k .answer in
+    let r = fits .0 in
+    let c = fits .1 in
     let f = ccr-le (a .flags) in
     let v = number-le (a .verdict) in
     let small : a .clocks % 256 ≡ a .clocks = omega arith in
@@ -205,11 +248,9 @@ unpacked k r c =
       class = part-4 (a .result) (ccrOf (a .flags)) (a .clocks) (numberOf (a .verdict)) (classOf (k .check)) r f c v (class-le (k .check));
     })
 
-asked-small : (op : ℕ) (found : Found) (s d : ℕ) (f : Flags) → askedOf op found s d f .answer .clocks < 2 ^ 8
-asked-small op (Is size) s d f = figure-small op size s d f
-asked-small op NoSize s d f = lit< tt
+asked-fits : (op : ℕ) (found : Found) (s d : ℕ) (f : Flags) → d < 2 ^ 32 → Fits (askedOf op found s d f)
+asked-fits op (Is size) s d f h = answer-fits op size s d f h
+asked-fits op NoSize s d f h = (lit< tt, lit< tt)
 
-pub call-reads :
-    (op size s d ccr : ℕ) → askedOf op (sizeOf size) s d (flagsOf ccr) .answer .result < 2 ^ 32 →
-    Reads (askedOf op (sizeOf size) s d (flagsOf ccr)) (callOf op size s d ccr)
-call-reads op size s d ccr r = unpacked (askedOf op (sizeOf size) s d (flagsOf ccr)) r (asked-small op (sizeOf size) s d (flagsOf ccr))
+pub call-reads : (op size s d ccr : ℕ) → d < 2 ^ 32 → Reads (askedOf op (sizeOf size) s d (flagsOf ccr)) (callOf op size s d ccr)
+call-reads op size s d ccr h = unpacked (askedOf op (sizeOf size) s d (flagsOf ccr)) (asked-fits op (sizeOf size) s d (flagsOf ccr) h)

@@ -33,8 +33,8 @@ flagsOf ccr = record { x = bit 4 ccr; n = bit 3 ccr; z = bit 2 ccr; v = bit 1 cc
 abbrev pub ccrOf : Flags → ℕ
 ccrOf f = digit (f .x) * 16 + digit (f .n) * 8 + digit (f .z) * 4 + digit (f .v) * 2 + digit (f .c)
 
--- the answer: the result in bits 0 to 31, the flags in 32 to 36, the low 8 bits of the clock figure in 40 to 47 (which is all
--- of it: `figure-small` of proofs/Unpacked), the refusal number in 48 and 49, CHK's class in 52 and 53; all other bits are 0
+-- the answer: the result in bits 0 to 31, the flags in 32 to 36, the low 8 bits of the clock figure in 40 to 47 (all of it: `answer-fits`
+-- of proofs/Unpacked), the refusal number in 48 and 49, CHK's class in 52 and 53; all other bits are 0
 abbrev pub packed : Checked → ℕ
 packed k =
     let a = k .answer in
@@ -51,8 +51,9 @@ pub data Row : Type 0 where
   none : (number : ℕ) → (Size → Flags → Answer) → Row
   check : (number : ℕ) → (Size → (bound value : ℕ) → Flags → Checked) → Row
 
--- the operations by number, in the order of document 01's forms table (the same as steps have: `same-table` of recipe_calls/proofs/Agree). The source of ADDQ and SUBQ (08 and 09 on data, 0a and 0b on an address
--- register) is the small number, that of a shift the count, that of a bit operation the bit's number
+-- the operations by number, in the order of document 01's forms table: that of steps too (`same-table` of recipe_calls/proofs/Agree). The source of ADDQ
+-- and SUBQ (08 and 09 on data, 0a and 0b on an address register) is the small number, that of a shift the count, that of a bit operation the bit's
+-- number
 unfoldable pub operations : List Row
 operations =
     two 0x00 addOf ∷

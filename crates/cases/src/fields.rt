@@ -177,7 +177,6 @@ pub(crate) fn long(n: u64) -> u32 {
     (n % 0x1_0000_0000) as u32
 }
 
-// Whether the numbers from a column on are these.
 // Of what is told, the first `many` numbers as the row has them from a column on, and 0 behind them.
 pub(crate) fn same_told(v: [u64; COLUMNS], column: usize, many: usize, told: [u64; TOLD]) -> bool
     requires { ⌜ column + 8 ≤ 320 ⌝ }

@@ -38,7 +38,7 @@ fn state(v: [u64; COLUMNS], column: usize) -> Run
         d: [d0, d1, 0x2222, 0x3333, 0x4444, 0x5555, 0x6666, 0x7777],
         a: [0x8000, a1, 0xa000, 0xb000, 0xc000, 0xd000, 0xe000, 0xf000],
         flags,
-        told: [0; TOLD],
+        told: [1; TOLD],
     }
 }
 

@@ -51,10 +51,11 @@ translationTold refusal line steps = numberOf refusal ∷ line ∷ steps ∷ 0 �
 abbrev pub textListed : (slots : List Step) → Reading → Listing
 textListed slots r = cond (isNothing (r .refusal)) (translateOf (r .recipe) slots) (listed (r .refusal) (r .line) 0 slots)
 
--- the words of its steps go to the front of the row that is lent, which has as many slots
+-- the words of its steps go to the front of the row that is lent
 abbrev pub listedIn : (listing : List ℕ) → Listing → RowLeft
 listedIn listing t = rowLeft (over (map stepWord (take (t .count) (t .steps))) listing) (translationTold (t .refusal) (t .line) (t .count))
 
+-- the translation has as many slots as that row
 abbrev pub translateWords : (text listing : List ℕ) → RowLeft
 translateWords text listing = listedIn listing (textListed (replicate (length listing) blank) (readOf text))
 

@@ -30,9 +30,9 @@ byteRadix = 2 ^ 8
 abbrev pub byteOf : (i word : ℕ) → ℕ
 byteOf i word = word / byteRadix ^ i % byteRadix
 
--- ---- a step: byte 0 is the operation (step/specs/Operations), 1 the size (0 byte, 1 word, 2 long), 2 the source's kind (0 none, 1 a small number, 2 a data register, 3 an
--- address register), 3 the source's number, 4 the destination's register number. Bytes 5 to 7 are kept for later: a word is written with 0 there, and
--- read whatever they hold. Byte 3 does not count where the kind is 0
+-- ---- a step: byte 0 is the operation (step/specs/Operations), 1 the size (0 byte, 1 word, 2 long), 2 the source's kind (0 none, 1 a small number, 2 a
+-- data register, 3 an address register), 3 the source's number, 4 the destination's register number. Byte 3 does not count where the kind is 0. Bytes 5
+-- to 7 are reserved: a caller writes 0 there, as `stepWord` does; today they are not read
 
 -- a form that takes one kind of source, or either of two
 abbrev pub only : (kind wanted : ℕ) → Form → Made

@@ -29,15 +29,10 @@ use step::registers::State;
 use step::runs::End;
 use step::runs::run_array;
 use step::steps::class;
+use words::wide;
 
-// The numbers that a call tells.
+// How many numbers a call tells.
 pub const TOLD: usize = 8;
-
-fn wide(x: u8) -> u64
-    ensures { λ r. ⌜ r ≡ x ⌝ }
-{
-    x as u64
-}
 
 fn long(x: u32) -> u64
     ensures { λ r. ⌜ r ≡ x ⌝ }

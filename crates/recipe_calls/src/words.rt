@@ -239,7 +239,7 @@ fn destination_number(form: Form) -> u8
     }
 }
 
-fn wide(x: u8) -> u64
+pub(crate) fn wide(x: u8) -> u64
     ensures { λ r. ⌜ (r ≡ x) × (r < 2 ^ 8) ⌝ }
 {
     x as u64

@@ -36,7 +36,7 @@ use step::registers::State;
 use step::runs::SLOTS;
 use step::steps::perform;
 
-// The names of the operations by number, each filled up with blanks to four bytes. So are the size letters.
+// The names of the operations by number, each filled up with blanks to four bytes (as the size letters below).
 const NAMES: [u8; 120] = *b"\
     ADD SUB CMP ADDXSUBXADDASUBACMPAADDQSUBQADDQSUBQCLR NEG NEGX\
     NOT EXT ASL ASR LSL LSR ROL ROR ROXLROXRBTSTBSETBCLRBCHGCHK ";
@@ -44,6 +44,7 @@ const NAMES: [u8; 120] = *b"\
 fn operation_name(form: Form) -> [u8; 4]
     ensures { λ r. ⌜ before 32 r ≡ operationText form ⌝ }
 {
+    // Once: each use of a constant lays it out anew.
     let names = NAMES;
     let at = step::forms::number(operation_of(form)) as usize * 4;
     [names[at], names[at + 1], names[at + 2], names[at + 3]]

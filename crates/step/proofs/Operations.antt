@@ -1,5 +1,6 @@
 -- Laws of the table of operations. Assumes nothing.
 --     stands     the number of an operation is a place of the table, and the row there is the operation's
+--     places     the place of each row is its operation's number
 --     each-row   a test that passes at all rows and their places passes at each operation's
 --     missed     a number that is none of the places names none
 use Prim.Native.Nat.{ℕ, zero, suc, _+_, _<_, _≤_}
@@ -8,7 +9,7 @@ use mathlib.Core.Bool.{Bool, true, false, _&&_, false≢true}
 use mathlib.Core.List.{List, [], _∷_}
 use native.Mathlib.Nat.{add-zero, zero-add, add-suc, suc-add, le-of-suc-le-suc, not-suc-le-zero}
 use native.Mathlib.Omega.{arith}
-use lib.Dec.{lit<}
+use lib.Dec.{eqb, lit<}
 use lib.ListN.{length, getD, List·getD-eq-default}
 use Rattle.alu.specs.declared.shift_rotate.ShiftOp.the-variants.{Asl, Asr, Lsl, Lsr, Rol, Ror, Roxl, Roxr}
 use Rattle.alu.specs.declared.bit_manip.BitOp.the-variants.{Btst, Bset, Bclr, Bchg}
@@ -72,6 +73,10 @@ from f [] i d t k h = absurd (not-suc-le-zero h)
 from f (x ∷ xs) i d t zero h = rw (add-zero i) (both (f i x) (every f (suc i) xs) t .0)
 from f (x ∷ xs) i d t (suc k) h =
     rw (add-suc i k ∙ sym (suc-add i k)) (from f xs (suc i) d (both (f i x) (every f (suc i) xs) t .1) k (le-of-suc-le-suc h))
+
+-- and the other way round: the place of each row is its operation's number
+pub places : every (λ k r. eqb (operationNumber (r .operation)) k) 0 operations ≡ true
+places = refl
 
 pub each-row : (f : ℕ → Row → Bool) → every f 0 operations ≡ true → (o : Operation) → f (operationNumber o) (getD operations (operationNumber o) (row Chk "")) ≡ true
 each-row f t o = rw (zero-add (operationNumber o)) at (from f operations 0 (row Chk "") t (operationNumber o) (stands o .0))

@@ -1,5 +1,6 @@
 -- The thirty operations of document 01's forms table, as steps are numbered and printed: one list of rows, and the place of a row is the number of its
--- operation. `alu_call` goes by the same numbers (`same-table` of recipe_calls/proofs/Agree). Assumes nothing.
+-- operation (`places` and `stands` of proofs/Operations). `alu_call` goes by the same numbers (`same-table` of recipe_calls/proofs/Agree). Assumes
+-- nothing.
 use Prim.Native.Nat.{ℕ}
 use Prim.Native.String.{String}
 use mathlib.Core.List.{List, [], _∷_, map}
@@ -64,7 +65,7 @@ operations =
 abbrev pub operationAt : ℕ → Found
 operationAt n = getD (map (λ (r : Row). Is (r .operation)) operations) n NoOperation
 
--- the place of an operation's row (`stands` of proofs/Operations: that row is the operation's)
+-- the place of an operation's row
 abbrev pub operationNumber : Operation → ℕ
 operationNumber (Two Add) = 0x00
 operationNumber (Two Sub) = 0x01
@@ -97,6 +98,7 @@ operationNumber (Bit Bclr) = 0x1b
 operationNumber (Bit Bchg) = 0x1c
 operationNumber Chk = 0x1d
 
+-- its name there. (Each has a row, so that the one past the table is never met)
 abbrev pub operationName : Operation → String
 operationName o = getD operations (operationNumber o) (row Chk "") .name
 

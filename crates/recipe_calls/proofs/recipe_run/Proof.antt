@@ -10,9 +10,9 @@ returns c =
     let r = n .before .before .before .before in
     rw (
       c .before .long .ensures,
-      p .wide2 .ensures,
+      p .wide2 .ensures .0,
       p .before .promised .ensures,
-      n .wide .ensures,
+      n .wide .ensures .0,
       n .before .number .ensures,
       n .before .before .ccr-after .ensures,
       r .before .run-text .ensures,
