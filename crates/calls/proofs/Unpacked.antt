@@ -137,37 +137,94 @@ chk-fits Long s d f h = (lit< tt, lit< tt)
 -- the rows in their order
 rows-fit : RowsFit operations
 unfolding operations
-rows-fit =
-    (λ size s d f h. (long size _ (results .add size s d f), lit< tt),
-    (λ size s d f h. (long size _ (results .sub size s d f), lit< tt),
-    (λ size s d f h. (h, lit< tt),
-    (λ size s d f h. (long size _ (results .addx size s d f), lit< tt),
-    (λ size s d f h. (long size _ (results .subx size s d f), lit< tt),
-    (λ size s d f h. (results .adda size s d f, unless size f _ (lit< tt)),
-    (λ size s d f h. (results .suba size s d f, unless size f _ (lit< tt)),
-    (λ size s d f h. (unless-result size f _ h, unless size f _ (lit< tt)),
-    (λ size s d f h. (long size _ (results .addq size s d f), two-of size 8 (lit≤ tt)),
-    (λ size s d f h. (long size _ (results .subq size s d f), two-of size 8 (lit≤ tt)),
-    (λ size s d f h. (results .addq-address size s d f, unless size f _ (lit< tt)),
-    (λ size s d f h. (results .subq-address size s d f, unless size f _ (lit< tt)),
-    (λ size s d f h. (long size _ (results .clr size s d f), two-of size 6 (lit≤ tt)),
-    (λ size s d f h. (long size _ (results .neg size s d f), two-of size 6 (lit≤ tt)),
-    (λ size s d f h. (long size _ (results .negx size s d f), two-of size 6 (lit≤ tt)),
-    (λ size s d f h. (long size _ (results .not size s d f), two-of size 6 (lit≤ tt)),
-    (λ size s d f h. (ext-result size d f h, unless size f _ (lit< tt)),
-    (λ size s d f h. (shift-result Asl size s d f h, shift-small Asl size s d f),
-    (λ size s d f h. (shift-result Asr size s d f h, shift-small Asr size s d f),
-    (λ size s d f h. (shift-result Lsl size s d f h, shift-small Lsl size s d f),
-    (λ size s d f h. (shift-result Lsr size s d f h, shift-small Lsr size s d f),
-    (λ size s d f h. (shift-result Rol size s d f h, shift-small Rol size s d f),
-    (λ size s d f h. (shift-result Ror size s d f h, shift-small Ror size s d f),
-    (λ size s d f h. (shift-result Roxl size s d f h, shift-small Roxl size s d f),
-    (λ size s d f h. (shift-result Roxr size s d f h, shift-small Roxr size s d f),
-    (λ size s d f h. (results .bitop Btst size s d f h, bit-small Btst size s d f),
-    (λ size s d f h. (results .bitop Bset size s d f h, bit-small Bset size s d f),
-    (λ size s d f h. (results .bitop Bclr size s d f h, bit-small Bclr size s d f),
-    (λ size s d f h. (results .bitop Bchg size s d f h, bit-small Bchg size s d f),
-    (chk-fits, tt))))))))))))))))))))))))))))))
+rows-fit = (
+  λ size s d f h. (long size _ (results .add size s d f), lit< tt),
+  (
+    λ size s d f h. (long size _ (results .sub size s d f), lit< tt),
+    (
+      λ size s d f h. (h, lit< tt),
+      (
+        λ size s d f h. (long size _ (results .addx size s d f), lit< tt),
+        (
+          λ size s d f h. (long size _ (results .subx size s d f), lit< tt),
+          (
+            λ size s d f h. (results .adda size s d f, unless size f _ (lit< tt)),
+            (
+              λ size s d f h. (results .suba size s d f, unless size f _ (lit< tt)),
+              (
+                λ size s d f h. (unless-result size f _ h, unless size f _ (lit< tt)),
+                (
+                  λ size s d f h. (long size _ (results .addq size s d f), two-of size 8 (lit≤ tt)),
+                  (
+                    λ size s d f h. (long size _ (results .subq size s d f), two-of size 8 (lit≤ tt)),
+                    (
+                      λ size s d f h. (results .addq-address size s d f, unless size f _ (lit< tt)),
+                      (
+                        λ size s d f h. (results .subq-address size s d f, unless size f _ (lit< tt)),
+                        (
+                          λ size s d f h. (long size _ (results .clr size s d f), two-of size 6 (lit≤ tt)),
+                          (
+                            λ size s d f h. (long size _ (results .neg size s d f), two-of size 6 (lit≤ tt)),
+                            (
+                              λ size s d f h. (long size _ (results .negx size s d f), two-of size 6 (lit≤ tt)),
+                              (
+                                λ size s d f h. (long size _ (results .not size s d f), two-of size 6 (lit≤ tt)),
+                                (
+                                  λ size s d f h. (ext-result size d f h, unless size f _ (lit< tt)),
+                                  (
+                                    λ size s d f h. (shift-result Asl size s d f h, shift-small Asl size s d f),
+                                    (
+                                      λ size s d f h. (shift-result Asr size s d f h, shift-small Asr size s d f),
+                                      (
+                                        λ size s d f h. (shift-result Lsl size s d f h, shift-small Lsl size s d f),
+                                        (
+                                          λ size s d f h. (shift-result Lsr size s d f h, shift-small Lsr size s d f),
+                                          (
+                                            λ size s d f h. (shift-result Rol size s d f h, shift-small Rol size s d f),
+                                            (
+                                              λ size s d f h. (shift-result Ror size s d f h, shift-small Ror size s d f),
+                                              (
+                                                λ size s d f h. (shift-result Roxl size s d f h, shift-small Roxl size s d f),
+                                                (
+                                                  λ size s d f h. (shift-result Roxr size s d f h, shift-small Roxr size s d f),
+                                                  (
+                                                    λ size s d f h. (results .bitop Btst size s d f h, bit-small Btst size s d f),
+                                                    (
+                                                      λ size s d f h. (results .bitop Bset size s d f h, bit-small Bset size s d f),
+                                                      (
+                                                        λ size s d f h. (results .bitop Bclr size s d f h, bit-small Bclr size s d f),
+                                                        (
+                                                          λ size s d f h. (results .bitop Bchg size s d f h, bit-small Bchg size s d f),
+                                                          (chk-fits, tt),
+                                                        ),
+                                                      ),
+                                                    ),
+                                                  ),
+                                                ),
+                                              ),
+                                            ),
+                                          ),
+                                        ),
+                                      ),
+                                    ),
+                                  ),
+                                ),
+                              ),
+                            ),
+                          ),
+                        ),
+                      ),
+                    ),
+                  ),
+                ),
+              ),
+            ),
+          ),
+        ),
+      ),
+    ),
+  ),
+)
 
 chosen-fits : (rows : List Row) → RowsFit rows → (op : ℕ) (size : Size) (s d : ℕ) (f : Flags) → d < 2 ^ 32 → Fits (chosen rows op size s d f)
 unfolding chosen
