@@ -30,7 +30,7 @@ use Rattle.alu.proofs.Bounds.{digit-le, number-le, class-le, figure-le}
 use Rattle.alu.proofs.Masked.{handsBack, results}
 use Rattle.calls.specs.declared.Found.{Found}
 use Rattle.calls.specs.declared.Found.the-variants.{Is, NoSize}
-use Rattle.calls.specs.Packed.{Row, check, operations, numberIn, done, chosen, answerOf, askedOf, callOf, sizeOf, flagsOf, ccrOf, packed}
+use Rattle.calls.specs.Packed.{Row, two, check, operations, numberIn, done, chosen, answerOf, askedOf, callOf, sizeOf, flagsOf, ccrOf, packed}
 
 -- ---- what an operation answers fits its place: a result of 32 bits where the destination has as many, and the figure
 
@@ -40,10 +40,11 @@ Fits k = (k .answer .result < 2 ^ 32) × (k .answer .clocks < 2 ^ 8)
 abbrev RowFits : Row → Type 0
 RowFits r = (size : Size) (s d : ℕ) (f : Flags) → d < 2 ^ 32 → Fits (done r size s d f)
 
-abbrev RowsFit : List Row → Type 0
-RowsFit [] = Unit {0}
-RowsFit (r ∷ rs) = RowFits r × RowsFit rs
+data RowsFit : List Row → Type 0 where
+  no-more : RowsFit []
+  _and_ : {r : Row} {rs : List Row} → RowFits r → RowsFit rs → RowsFit (r ∷ rs)
 
+infixr 5 _and_
 long : (size : Size) (r : ℕ) → r < 2 ^ bitsOf size → r < 2 ^ 32
 long Byte r h = omega arith
 long Word r h = omega arith
@@ -129,6 +130,12 @@ check-small Over = lit< tt
 check-small Short = lit< tt
 check-small Below = lit< tt
 
+shift-fits : (n : ℕ) (op : ShiftOp) → RowFits (two n (shiftOf op))
+shift-fits n op size s d f h = (shift-result op size s d f h, shift-small op size s d f)
+
+bit-fits : (n : ℕ) (op : BitOp) → RowFits (two n (bitopOf op))
+bit-fits n op size s d f h = (results .bitop op size s d f h, bit-small op size s d f)
+
 chk-fits : RowFits (check 0x1d chkOf)
 chk-fits Byte s d f h = (lit< tt, lit< tt)
 chk-fits Word s d f h = (h, check-small (checkOf 16 s d))
@@ -137,102 +144,45 @@ chk-fits Long s d f h = (lit< tt, lit< tt)
 -- the rows in their order
 rows-fit : RowsFit operations
 unfolding operations
-rows-fit = (
-  λ size s d f h. (long size _ (results .add size s d f), lit< tt),
-  (
-    λ size s d f h. (long size _ (results .sub size s d f), lit< tt),
-    (
-      λ size s d f h. (h, lit< tt),
-      (
-        λ size s d f h. (long size _ (results .addx size s d f), lit< tt),
-        (
-          λ size s d f h. (long size _ (results .subx size s d f), lit< tt),
-          (
-            λ size s d f h. (results .adda size s d f, unless size f _ (lit< tt)),
-            (
-              λ size s d f h. (results .suba size s d f, unless size f _ (lit< tt)),
-              (
-                λ size s d f h. (unless-result size f _ h, unless size f _ (lit< tt)),
-                (
-                  λ size s d f h. (long size _ (results .addq size s d f), two-of size 8 (lit≤ tt)),
-                  (
-                    λ size s d f h. (long size _ (results .subq size s d f), two-of size 8 (lit≤ tt)),
-                    (
-                      λ size s d f h. (results .addq-address size s d f, unless size f _ (lit< tt)),
-                      (
-                        λ size s d f h. (results .subq-address size s d f, unless size f _ (lit< tt)),
-                        (
-                          λ size s d f h. (long size _ (results .clr size s d f), two-of size 6 (lit≤ tt)),
-                          (
-                            λ size s d f h. (long size _ (results .neg size s d f), two-of size 6 (lit≤ tt)),
-                            (
-                              λ size s d f h. (long size _ (results .negx size s d f), two-of size 6 (lit≤ tt)),
-                              (
-                                λ size s d f h. (long size _ (results .not size s d f), two-of size 6 (lit≤ tt)),
-                                (
-                                  λ size s d f h. (ext-result size d f h, unless size f _ (lit< tt)),
-                                  (
-                                    λ size s d f h. (shift-result Asl size s d f h, shift-small Asl size s d f),
-                                    (
-                                      λ size s d f h. (shift-result Asr size s d f h, shift-small Asr size s d f),
-                                      (
-                                        λ size s d f h. (shift-result Lsl size s d f h, shift-small Lsl size s d f),
-                                        (
-                                          λ size s d f h. (shift-result Lsr size s d f h, shift-small Lsr size s d f),
-                                          (
-                                            λ size s d f h. (shift-result Rol size s d f h, shift-small Rol size s d f),
-                                            (
-                                              λ size s d f h. (shift-result Ror size s d f h, shift-small Ror size s d f),
-                                              (
-                                                λ size s d f h. (shift-result Roxl size s d f h, shift-small Roxl size s d f),
-                                                (
-                                                  λ size s d f h. (shift-result Roxr size s d f h, shift-small Roxr size s d f),
-                                                  (
-                                                    λ size s d f h. (results .bitop Btst size s d f h, bit-small Btst size s d f),
-                                                    (
-                                                      λ size s d f h. (results .bitop Bset size s d f h, bit-small Bset size s d f),
-                                                      (
-                                                        λ size s d f h. (results .bitop Bclr size s d f h, bit-small Bclr size s d f),
-                                                        (
-                                                          λ size s d f h. (results .bitop Bchg size s d f h, bit-small Bchg size s d f),
-                                                          (chk-fits, tt),
-                                                        ),
-                                                      ),
-                                                    ),
-                                                  ),
-                                                ),
-                                              ),
-                                            ),
-                                          ),
-                                        ),
-                                      ),
-                                    ),
-                                  ),
-                                ),
-                              ),
-                            ),
-                          ),
-                        ),
-                      ),
-                    ),
-                  ),
-                ),
-              ),
-            ),
-          ),
-        ),
-      ),
-    ),
-  ),
-)
+rows-fit =
+    (λ size s d f h. (long size _ (results .add size s d f), lit< tt)) and
+    (λ size s d f h. (long size _ (results .sub size s d f), lit< tt)) and
+    (λ size s d f h. (h, lit< tt)) and
+    (λ size s d f h. (long size _ (results .addx size s d f), lit< tt)) and
+    (λ size s d f h. (long size _ (results .subx size s d f), lit< tt)) and
+    (λ size s d f h. (results .adda size s d f, unless size f _ (lit< tt))) and
+    (λ size s d f h. (results .suba size s d f, unless size f _ (lit< tt))) and
+    (λ size s d f h. (unless-result size f _ h, unless size f _ (lit< tt))) and
+    (λ size s d f h. (long size _ (results .addq size s d f), two-of size 8 (lit≤ tt))) and
+    (λ size s d f h. (long size _ (results .subq size s d f), two-of size 8 (lit≤ tt))) and
+    (λ size s d f h. (results .addq-address size s d f, unless size f _ (lit< tt))) and
+    (λ size s d f h. (results .subq-address size s d f, unless size f _ (lit< tt))) and
+    (λ size s d f h. (long size _ (results .clr size s d f), two-of size 6 (lit≤ tt))) and
+    (λ size s d f h. (long size _ (results .neg size s d f), two-of size 6 (lit≤ tt))) and
+    (λ size s d f h. (long size _ (results .negx size s d f), two-of size 6 (lit≤ tt))) and
+    (λ size s d f h. (long size _ (results .not size s d f), two-of size 6 (lit≤ tt))) and
+    (λ size s d f h. (ext-result size d f h, unless size f _ (lit< tt))) and
+    shift-fits 0x11 Asl and
+    shift-fits 0x12 Asr and
+    shift-fits 0x13 Lsl and
+    shift-fits 0x14 Lsr and
+    shift-fits 0x15 Rol and
+    shift-fits 0x16 Ror and
+    shift-fits 0x17 Roxl and
+    shift-fits 0x18 Roxr and
+    bit-fits 0x19 Btst and
+    bit-fits 0x1a Bset and
+    bit-fits 0x1b Bclr and
+    bit-fits 0x1c Bchg and
+    chk-fits and no-more
 
 chosen-fits : (rows : List Row) → RowsFit rows → (op : ℕ) (size : Size) (s d : ℕ) (f : Flags) → d < 2 ^ 32 → Fits (chosen rows op size s d f)
 unfolding chosen
-chosen-fits [] a op size s d f h = (lit< tt, lit< tt)
-chosen-fits (r ∷ rs) a op size s d f h = go (eqb op (numberIn r)) (chosen-fits rs (a .1) op size s d f h)
+chosen-fits [] no-more op size s d f h = (lit< tt, lit< tt)
+chosen-fits (r ∷ rs) (fits and more) op size s d f h = go (eqb op (numberIn r)) (chosen-fits rs more op size s d f h)
   where
     go : (t : Bool) → Fits (chosen rs op size s d f) → Fits (cond t (done r size s d f) (chosen rs op size s d f))
-    go true k = a .0 size s d f h
+    go true k = fits size s d f h
     go false k = k
 
 pub answer-fits : (op : ℕ) (size : Size) (s d : ℕ) (f : Flags) → d < 2 ^ 32 → Fits (answerOf op size s d f)
