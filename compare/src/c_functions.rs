@@ -6,8 +6,10 @@
 
 use crate::steps::{Flags, Slice, State};
 
-/// What a function tells.
-type Told = [u64; 8];
+/// How many numbers a function tells.
+pub const TOLD: usize = 8;
+
+type Told = [u64; TOLD];
 
 unsafe extern "C" {
     fn recipe_archive_recipe_answer(text: &Slice<u8>, out: &Slice<u8>) -> usize;
@@ -31,7 +33,7 @@ pub fn recipe_answer(text: &[u8], out: &mut [u8]) -> usize {
 
 /// The refusal's number, its line and the number of steps; then zeros.
 pub fn recipe_translate(text: &[u8], listing: &mut [u64]) -> Told {
-    let mut told = [u64::MAX; 8];
+    let mut told = [u64::MAX; TOLD];
     // SAFETY: as above.
     unsafe { recipe_archive_recipe_translate(&Slice::lent(text), &Slice::lent_to_write(listing), &mut told) };
     told
@@ -39,7 +41,7 @@ pub fn recipe_translate(text: &[u8], listing: &mut [u64]) -> Told {
 
 /// What `Ran::told` tells of other runs; then zeros.
 pub fn listing_run(listing: &[u64], state: &mut State, start: usize, budget: u32) -> Told {
-    let (mut told, mut flags) = ([u64::MAX; 8], state.flags.ccr());
+    let (mut told, mut flags) = ([u64::MAX; TOLD], state.flags.ccr());
     let State { d, a, .. } = state;
     // SAFETY: as above.
     unsafe { recipe_archive_listing_run(&Slice::lent(listing), d, a, &mut flags, start, budget, &mut told) };

@@ -4,7 +4,7 @@
 //!
 //! SEED is the random numbers' seed. How often each refusal and each of `CASES` was met is printed; if one never was, the status is 2.
 
-use compare::c_functions::{recipe_answer, recipe_translate};
+use compare::c_functions::{TOLD, recipe_answer, recipe_translate};
 use compare::cases::Random;
 use compare::check::Tally;
 use compare::ported_recipes as ported;
@@ -13,6 +13,7 @@ use compare::recipes::{answer, read, taken, translate};
 use compare::refusals;
 use compare::steps::{Form, Size, Step};
 use compare::texts::{self, KINDS, LONGEST};
+use std::collections::BTreeMap;
 use std::fmt::Debug;
 use std::process::ExitCode;
 
@@ -23,17 +24,24 @@ static UNTOUCHED: [u8; PRINT_MAX] = [0xA5; PRINT_MAX];
 const EMPTY: u64 = 0xA5A5_A5A5_A5A5_A5A5;
 
 /// How often each refusal number was met, and at 0 acceptance.
-type Met = [u64; 10];
+type Met = BTreeMap<usize, u64>;
+
+/// The numbers that a text or a row can be refused with, and 0.
+const NUMBERS: [usize; 7] = [0, 4, 5, 6, 7, 8, 9];
 
 /// Prints it; whether all of `wanted` were met.
 fn are_met(name: &str, met: &Met, wanted: &[usize]) -> bool {
-    let counts = [0, 4, 5, 6, 7, 8, 9].map(|number: usize| met[number].to_string());
+    let counts = NUMBERS.map(|number| met.get(&number).copied().unwrap_or(0).to_string());
     println!("{name}\t{}", counts.join("\t"));
-    let missing: Vec<&usize> = wanted.iter().filter(|&&number| met[number] == 0).collect();
+    let missing: Vec<&usize> = wanted.iter().filter(|number| !met.contains_key(number)).collect();
     if !missing.is_empty() {
         println!("NEVER MET: {name}: {missing:?}; 0 is acceptance");
     }
-    missing.is_empty()
+    let others: Vec<&usize> = met.keys().filter(|number| !NUMBERS.contains(number)).collect();
+    if !others.is_empty() {
+        println!("NO SUCH NUMBER: {name}: {others:?}");
+    }
+    missing.is_empty() && others.is_empty()
 }
 
 /// What is printed, byte for byte, with nothing written behind it.
@@ -74,7 +82,7 @@ fn compare_listings(text: &[u8], tally: &mut Tally) -> [[usize; 3]; 3] {
         let [number, line, count, rest @ ..] =
             recipe_translate(text, &mut row[..slots]).map(|word| word as usize);
         let got = Laid { told: [number, line, count], row };
-        tally.count(got == want && rest == [0; 5], || {
+        tally.count(got == want && rest == [0; TOLD - 3], || {
             let (text, shown) = (text.escape_ascii(), got.shown_against(&want));
             format!(
                 "text \"{text}\", {slots} slots\n  port     {shown}, then {rest:x?}\n  reading  {:?}",
@@ -115,9 +123,9 @@ fn compare_rows(tally: &mut Tally) -> usize {
 /// Refusal 9 is that of a row with a slot too few for an accepted text.
 fn compare_texts(count: u64, random: &mut Random, tally: &mut Tally) -> bool {
     let mut out = UNTOUCHED;
-    let mut met = [Met::default(); KINDS.len()];
+    let mut met = [const { Met::new() }; KINDS.len()];
     // no line is refused; or the recipe's first (or the width line), one between, the text's last
-    let mut places = [Met::default(); 4];
+    let mut places = [const { Met::new() }; 4];
     let mut long = 0;
     for at in 0..count {
         let kind = (at % KINDS.len() as u64) as usize;
@@ -133,8 +141,10 @@ fn compare_texts(count: u64, random: &mut Random, tally: &mut Tally) -> bool {
         let last = text.split_inclusive(|&byte| byte == b'\n').count();
         let place = if line <= 2 { line.min(1) } else { 2 + usize::from(line == last) };
         for met in [&mut met[kind], &mut places[place]] {
-            met[number] += 1;
-            met[9] += u64::from(short == 9);
+            *met.entry(number).or_default() += 1;
+            if short == 9 {
+                *met.entry(9).or_default() += 1;
+            }
         }
     }
     println!("longer than the program reads\t{long}\ntexts\taccepted\t4\t5\t6\t7\t8\t9");
