@@ -1,5 +1,5 @@
 -- Laws of a packed answer. Assumes nothing.
---     answer-fits   every figure of document 01 is below 2 ^ 8, so that the packed one is the whole figure; and every result has 32 bits
+--     answer-fits   every figure of document 01 is below 2 ^ 8, so that the packed one is the whole figure; a result has 32 bits if the destination has
 --     unpacked      a packed answer reads back: result, flags, figure, refusal number and class
 --     call-reads    so does what `alu_call` answers
 use Prim.Native.Nat.{ℕ, _+_, _*_, _/_, _%_, _^_, _<_, _≤_}
@@ -32,13 +32,13 @@ use Rattle.calls.specs.declared.Found.{Found}
 use Rattle.calls.specs.declared.Found.the-variants.{Is, NoSize}
 use Rattle.calls.specs.Packed.{Row, two, check, operations, numberIn, done, chosen, answerOf, askedOf, callOf, sizeOf, flagsOf, ccrOf, packed}
 
--- ---- what an operation answers fits its place: a result of 32 bits where the destination has as many, and the figure
+-- ---- what an operation answers fits its place: the figure, and the result where the destination d has 32 bits
 
-abbrev pub Fits : Checked → Type 0
-Fits k = (k .answer .result < 2 ^ 32) × (k .answer .clocks < 2 ^ 8)
+abbrev pub FitsFrom : (d : ℕ) → Checked → Type 0
+FitsFrom d k = (k .answer .clocks < 2 ^ 8) × (d < 2 ^ 32 → k .answer .result < 2 ^ 32)
 
 abbrev RowFits : Row → Type 0
-RowFits r = (size : Size) (s d : ℕ) (f : Flags) → d < 2 ^ 32 → Fits (done r size s d f)
+RowFits r = (size : Size) (s d : ℕ) (f : Flags) → FitsFrom d (done r size s d f)
 
 data RowsFit : List Row → Type 0 where
   no-more : RowsFit []
@@ -131,37 +131,37 @@ check-small Short = lit< tt
 check-small Below = lit< tt
 
 shift-fits : (n : ℕ) (op : ShiftOp) → RowFits (two n (shiftOf op))
-shift-fits n op size s d f h = (shift-result op size s d f h, shift-small op size s d f)
+shift-fits n op size s d f = (shift-small op size s d f, λ h. shift-result op size s d f h)
 
 bit-fits : (n : ℕ) (op : BitOp) → RowFits (two n (bitopOf op))
-bit-fits n op size s d f h = (results .bitop op size s d f h, bit-small op size s d f)
+bit-fits n op size s d f = (bit-small op size s d f, λ h. results .bitop op size s d f h)
 
 chk-fits : RowFits (check 0x1d chkOf)
-chk-fits Byte s d f h = (lit< tt, lit< tt)
-chk-fits Word s d f h = (h, check-small (checkOf 16 s d))
-chk-fits Long s d f h = (lit< tt, lit< tt)
+chk-fits Byte s d f = (lit< tt, λ h. lit< tt)
+chk-fits Word s d f = (check-small (checkOf 16 s d), λ h. h)
+chk-fits Long s d f = (lit< tt, λ h. lit< tt)
 
 -- the rows in their order
 rows-fit : RowsFit operations
 unfolding operations
 rows-fit =
-    (λ size s d f h. (long size _ (results .add size s d f), lit< tt)) and
-    (λ size s d f h. (long size _ (results .sub size s d f), lit< tt)) and
-    (λ size s d f h. (h, lit< tt)) and
-    (λ size s d f h. (long size _ (results .addx size s d f), lit< tt)) and
-    (λ size s d f h. (long size _ (results .subx size s d f), lit< tt)) and
-    (λ size s d f h. (results .adda size s d f, unless size f _ (lit< tt))) and
-    (λ size s d f h. (results .suba size s d f, unless size f _ (lit< tt))) and
-    (λ size s d f h. (unless-result size f _ h, unless size f _ (lit< tt))) and
-    (λ size s d f h. (long size _ (results .addq size s d f), two-of size 8 (lit≤ tt))) and
-    (λ size s d f h. (long size _ (results .subq size s d f), two-of size 8 (lit≤ tt))) and
-    (λ size s d f h. (results .addq-address size s d f, unless size f _ (lit< tt))) and
-    (λ size s d f h. (results .subq-address size s d f, unless size f _ (lit< tt))) and
-    (λ size s d f h. (long size _ (results .clr size s d f), two-of size 6 (lit≤ tt))) and
-    (λ size s d f h. (long size _ (results .neg size s d f), two-of size 6 (lit≤ tt))) and
-    (λ size s d f h. (long size _ (results .negx size s d f), two-of size 6 (lit≤ tt))) and
-    (λ size s d f h. (long size _ (results .not size s d f), two-of size 6 (lit≤ tt))) and
-    (λ size s d f h. (ext-result size d f h, unless size f _ (lit< tt))) and
+    (λ size s d f. (lit< tt, λ h. long size _ (results .add size s d f))) and
+    (λ size s d f. (lit< tt, λ h. long size _ (results .sub size s d f))) and
+    (λ size s d f. (lit< tt, λ h. h)) and
+    (λ size s d f. (lit< tt, λ h. long size _ (results .addx size s d f))) and
+    (λ size s d f. (lit< tt, λ h. long size _ (results .subx size s d f))) and
+    (λ size s d f. (unless size f _ (lit< tt), λ h. results .adda size s d f)) and
+    (λ size s d f. (unless size f _ (lit< tt), λ h. results .suba size s d f)) and
+    (λ size s d f. (unless size f _ (lit< tt), λ h. unless-result size f _ h)) and
+    (λ size s d f. (two-of size 8 (lit≤ tt), λ h. long size _ (results .addq size s d f))) and
+    (λ size s d f. (two-of size 8 (lit≤ tt), λ h. long size _ (results .subq size s d f))) and
+    (λ size s d f. (unless size f _ (lit< tt), λ h. results .addq-address size s d f)) and
+    (λ size s d f. (unless size f _ (lit< tt), λ h. results .subq-address size s d f)) and
+    (λ size s d f. (two-of size 6 (lit≤ tt), λ h. long size _ (results .clr size s d f))) and
+    (λ size s d f. (two-of size 6 (lit≤ tt), λ h. long size _ (results .neg size s d f))) and
+    (λ size s d f. (two-of size 6 (lit≤ tt), λ h. long size _ (results .negx size s d f))) and
+    (λ size s d f. (two-of size 6 (lit≤ tt), λ h. long size _ (results .not size s d f))) and
+    (λ size s d f. (unless size f _ (lit< tt), λ h. ext-result size d f h)) and
     shift-fits 0x11 Asl and
     shift-fits 0x12 Asr and
     shift-fits 0x13 Lsl and
@@ -176,17 +176,17 @@ rows-fit =
     bit-fits 0x1c Bchg and
     chk-fits and no-more
 
-chosen-fits : (rows : List Row) → RowsFit rows → (op : ℕ) (size : Size) (s d : ℕ) (f : Flags) → d < 2 ^ 32 → Fits (chosen rows op size s d f)
+chosen-fits : (rows : List Row) → RowsFit rows → (op : ℕ) (size : Size) (s d : ℕ) (f : Flags) → FitsFrom d (chosen rows op size s d f)
 unfolding chosen
-chosen-fits [] no-more op size s d f h = (lit< tt, lit< tt)
-chosen-fits (r ∷ rs) (fits and more) op size s d f h = go (eqb op (numberIn r)) (chosen-fits rs more op size s d f h)
+chosen-fits [] no-more op size s d f = (lit< tt, λ h. lit< tt)
+chosen-fits (r ∷ rs) (fits and more) op size s d f = go (eqb op (numberIn r)) (chosen-fits rs more op size s d f)
   where
-    go : (t : Bool) → Fits (chosen rs op size s d f) → Fits (cond t (done r size s d f) (chosen rs op size s d f))
-    go true k = fits size s d f h
+    go : (t : Bool) → FitsFrom d (chosen rs op size s d f) → FitsFrom d (cond t (done r size s d f) (chosen rs op size s d f))
+    go true k = fits size s d f
     go false k = k
 
-pub answer-fits : (op : ℕ) (size : Size) (s d : ℕ) (f : Flags) → d < 2 ^ 32 → Fits (answerOf op size s d f)
-answer-fits op size s d f h = chosen-fits operations rows-fit op size s d f h
+pub answer-fits : (op : ℕ) (size : Size) (s d : ℕ) (f : Flags) → FitsFrom d (answerOf op size s d f)
+answer-fits op size s d f = chosen-fits operations rows-fit op size s d f
 
 -- ---- there and back
 
@@ -199,27 +199,27 @@ pub record Reads (k : Checked) (n : ℕ) : Type 0 where
   pub class : n / 2 ^ 52 % 2 ^ 2 ≡ classOf (k .check)
 
 -- what stands in a place comes out of it. The numbers are the powers of 2, as they compute
-abbrev sum : (a b c d e : ℕ) → ℕ
-sum a b c d e = a + b * 4294967296 + c * 1099511627776 + d * 281474976710656 + e * 4503599627370496
+abbrev laid : (a b c d e : ℕ) → ℕ
+laid a b c d e = a + b * 4294967296 + c * 1099511627776 + d * 281474976710656 + e * 4503599627370496
 
-part-0 : (a b c d e : ℕ) → a < 4294967296 → sum a b c d e % 4294967296 ≡ a
+part-0 : (a b c d e : ℕ) → a < 4294967296 → laid a b c d e % 4294967296 ≡ a
 part-0 a b c d e h = omega arith
 
-part-1 : (a b c d e : ℕ) → a < 4294967296 → b ≤ 31 → sum a b c d e / 4294967296 % 256 ≡ b
+part-1 : (a b c d e : ℕ) → a < 4294967296 → b ≤ 31 → laid a b c d e / 4294967296 % 256 ≡ b
 part-1 a b c d e h i = omega arith
 
-part-2 : (a b c d e : ℕ) → a < 4294967296 → b ≤ 31 → c < 256 → sum a b c d e / 1099511627776 % 256 ≡ c
+part-2 : (a b c d e : ℕ) → a < 4294967296 → b ≤ 31 → c < 256 → laid a b c d e / 1099511627776 % 256 ≡ c
 part-2 a b c d e h i j = omega arith
 
-part-3 : (a b c d e : ℕ) → a < 4294967296 → b ≤ 31 → c < 256 → d ≤ 2 → sum a b c d e / 281474976710656 % 4 ≡ d
+part-3 : (a b c d e : ℕ) → a < 4294967296 → b ≤ 31 → c < 256 → d ≤ 2 → laid a b c d e / 281474976710656 % 4 ≡ d
 part-3 a b c d e h i j k = omega arith
 
-part-4 : (a b c d e : ℕ) → a < 4294967296 → b ≤ 31 → c < 256 → d ≤ 2 → e ≤ 3 → sum a b c d e / 4503599627370496 % 4 ≡ e
+part-4 : (a b c d e : ℕ) → a < 4294967296 → b ≤ 31 → c < 256 → d ≤ 2 → e ≤ 3 → laid a b c d e / 4503599627370496 % 4 ≡ e
 part-4 a b c d e h i j k l = omega arith
 
-set : (b : Bool) {n : ℕ} → n ≡ digit b → eqb n 1 ≡ b
-set true e = rw e
-set false e = rw e
+digit-back : (b : Bool) {n : ℕ} → n ≡ digit b → eqb n 1 ≡ b
+digit-back true e = rw e
+digit-back false e = rw e
 
 ccr-le : (f : Flags) → ccrOf f ≤ 31
 ccr-le f = omega (arith, digit-le (f .x), digit-le (f .n), digit-le (f .z), digit-le (f .v), digit-le (f .c))
@@ -232,18 +232,16 @@ flags-back f =
     let v = digit-le (f .v) in
     let c = digit-le (f .c) in
     rw (
-      set (f .x) {n = ccrOf f / 16 % 2} (omega arith),
-      set (f .n) {n = ccrOf f / 8 % 2} (omega arith),
-      set (f .z) {n = ccrOf f / 4 % 2} (omega arith),
-      set (f .v) {n = ccrOf f / 2 % 2} (omega arith),
-      set (f .c) {n = ccrOf f / 1 % 2} (omega arith),
+      digit-back (f .x) {n = ccrOf f / 16 % 2} (omega arith),
+      digit-back (f .n) {n = ccrOf f / 8 % 2} (omega arith),
+      digit-back (f .z) {n = ccrOf f / 4 % 2} (omega arith),
+      digit-back (f .v) {n = ccrOf f / 2 % 2} (omega arith),
+      digit-back (f .c) {n = ccrOf f / 1 % 2} (omega arith),
     )
 
-pub unpacked : (k : Checked) → Fits k → Reads k (packed k)
-unpacked k fits =
+pub unpacked : (k : Checked) → k .answer .result < 2 ^ 32 → k .answer .clocks < 2 ^ 8 → Reads k (packed k)
+unpacked k r c =
     let a = k .answer in
-    let r = fits .0 in
-    let c = fits .1 in
     let f = ccr-le (a .flags) in
     let v = number-le (a .verdict) in
     let small : a .clocks % 256 ≡ a .clocks = omega arith in
@@ -255,9 +253,10 @@ unpacked k fits =
       class = part-4 (a .result) (ccrOf (a .flags)) (a .clocks) (numberOf (a .verdict)) (classOf (k .check)) r f c v (class-le (k .check));
     })
 
-asked-fits : (op : ℕ) (found : Found) (s d : ℕ) (f : Flags) → d < 2 ^ 32 → Fits (askedOf op found s d f)
-asked-fits op (Is size) s d f h = answer-fits op size s d f h
-asked-fits op NoSize s d f h = (lit< tt, lit< tt)
+asked-fits : (op : ℕ) (found : Found) (s d : ℕ) (f : Flags) → FitsFrom d (askedOf op found s d f)
+asked-fits op (Is size) s d f = answer-fits op size s d f
+asked-fits op NoSize s d f = (lit< tt, λ h. lit< tt)
 
 pub call-reads : (op size s d ccr : ℕ) → d < 2 ^ 32 → Reads (askedOf op (sizeOf size) s d (flagsOf ccr)) (callOf op size s d ccr)
-call-reads op size s d ccr h = unpacked (askedOf op (sizeOf size) s d (flagsOf ccr)) (asked-fits op (sizeOf size) s d (flagsOf ccr) h)
+call-reads op size s d ccr h =
+    let fits = asked-fits op (sizeOf size) s d (flagsOf ccr) in unpacked (askedOf op (sizeOf size) s d (flagsOf ccr)) (fits .1 h) (fits .0)
