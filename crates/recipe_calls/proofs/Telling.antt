@@ -1,10 +1,10 @@
 -- Laws of what is told of a run and of a translation. Assumes nothing.
 --     end-told          the three numbers of an end, one by one
 --     slipped, passed   a text that the reader refuses, and one that it reads
---     fits, short       a translation made in an array, handed to a row that has room for it, and to one that has not: it is the translation into as many slots
+--     fits, short       a translation made in an array, handed to a row that has room for it, and to one that has not: that into as many slots
 use Prim.Native.Nat.{ℕ, _≤_, _<_}
 use mathlib.Core.Path.{_≡_, refl, sym, ap, _∙_}
-use mathlib.Core.List.{List, [], _∷_, _++_, map}
+use mathlib.Core.List.{List, _∷_, _++_}
 use borrow.Author.Tests.{eq-eqb, ne-eqb, le-ltb, lt-ltb}
 use lib.ListN.{length, getD, take, drop, replicate, length-replicate}
 use lib.Seq.{take-at, length-take-le}
@@ -17,9 +17,8 @@ use Rattle.recipes.specs.declared.types.Refusal.the-variants.{NoSpace}
 use Rattle.recipes.specs.declared.types.Reading.{Reading}
 use Rattle.recipes.specs.Recipe.{numberOf}
 use Rattle.recipes.specs.Reader.{readOf}
-use Rattle.recipes.specs.Listing.{over, blank, blanks, translateOf}
+use Rattle.recipes.specs.Listing.{blank, blanks, translateOf}
 use Rattle.recipes.proofs.Settling.{blanks-hold, translate-lent}
-use Rattle.recipe_calls.specs.Words.{stepWord}
 use Rattle.recipe_calls.specs.Calls.{rowLeft, translationTold, listedIn, translateWords}
 
 pub end-told : (e : End) (rest : List ℕ) → getD (endNumbers e) 0 0 ∷ getD (endNumbers e) 1 0 ∷ getD (endNumbers e) 2 0 ∷ rest ≡ endNumbers e ++ rest

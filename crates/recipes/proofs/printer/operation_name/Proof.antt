@@ -7,12 +7,10 @@ use mathlib.Core.Path.{_≡_, refl, _∙_, ap}
 use native.Mathlib.Omega.{arith}
 use lib.ListN.{getD}
 use borrow.Author.Needs.{needs}
-use Rattle.step.specs.declared.forms.Form.{Form}
 use Rattle.step.specs.declared.forms.Operation.{Operation}
-use Rattle.step.specs.Operations.{Row, operationNumber, operationName, operationOf}
+use Rattle.step.specs.Operations.{Row, operationNumber, operationName}
 use Rattle.step.proofs.Operations.{stands, each-row}
 use Rattle.recipes.specs.Text.{ascii, sameBytes, before}
-use Rattle.recipes.specs.Printer.{operationText}
 use Rattle.recipes.proofs.Texts.{same-true}
 use Rattle.recipes.proofs.printer.operation_name.Statement.{statement}
 use Rattle.recipes.proofs.printer.operation_name.Tie as tie
