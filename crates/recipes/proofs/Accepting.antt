@@ -17,10 +17,11 @@ use Rattle.recipes.specs.declared.types.Verb.the-variants.{Clear, Copy, 
 use Rattle.recipes.specs.declared.types.Line.{Line}
 use Rattle.recipes.specs.declared.types.Recipe.{Recipe}
 use Rattle.recipes.specs.declared.types.Refusal.{Refusal}
+use Rattle.recipes.specs.declared.types.Refused.{Refused}
 use Rattle.recipes.specs.declared.types.Refusal.the-variants.{NoSuchNumber, OntoItself, TooManyLines, WidthLine}
-use Rattle.recipes.specs.declared.reader.LineRead.{LineRead}
-use Rattle.recipes.specs.declared.reader.LineRead.the-variants.{Read, Slip}
-use Rattle.recipes.specs.Recipe.{linesMax, isNothing, isCopy, target, isWidth, recipeLines, lineChecked, Names, Accepted}
+use Rattle.recipes.specs.declared.lines.LineRead.{LineRead}
+use Rattle.recipes.specs.declared.lines.LineRead.the-variants.{Read, Slip}
+use Rattle.recipes.specs.Recipe.{linesMax, numberOf, atLine, isNothing, isCopy, target, isWidth, recipeLines, lineChecked, Names, Accepted}
 use Rattle.recipes.specs.Listing.{unlessSlip, linesPass, tested}
 
 -- ---- lines
@@ -36,7 +37,7 @@ lineIn other (Slip k) = other
 
 abbrev slipIn : LineRead → Bool
 slipIn (Read l) = true
-slipIn (Slip k) = isNothing k
+slipIn (Slip k) = eqb (numberOf k) 0
 
 pub no-read : {k : Refusal} {m : Line} → Slip k ≡ Read m → ⊥
 no-read e = false≢true (ap isRead e)
@@ -65,11 +66,11 @@ checked-same n l m e = go (leb n (l .a) || leb n (target l)) (isCopy (l .verb) &
     go false false e = ap (lineIn l) e
 
 -- and a slip is one: it has a number
-pub checked-slip : (n : ℕ) (l : Line) (k : Refusal) → lineChecked n l ≡ Slip k → isNothing k ≡ false
+pub checked-slip : (n : ℕ) (l : Line) (k : Refusal) → lineChecked n l ≡ Slip k → eqb (numberOf k) 0 ≡ false
 unfolding lineChecked
 checked-slip n l k e = go (leb n (l .a) || leb n (target l)) (isCopy (l .verb) && eqb (l .a) (target l)) e
   where
-    go : (t u : Bool) → cond t (Slip NoSuchNumber) (cond u (Slip OntoItself) (Read l)) ≡ Slip k → isNothing k ≡ false
+    go : (t u : Bool) → cond t (Slip NoSuchNumber) (cond u (Slip OntoItself) (Read l)) ≡ Slip k → eqb (numberOf k) 0 ≡ false
     go true u e = sym (ap slipIn e)
     go false true e = sym (ap slipIn e)
     go false false e = absurd (no-read (sym e))
@@ -117,8 +118,8 @@ pub record Good (r : Recipe) : Type 0 where
   pub few : r .count ≤ linesMax
   pub lines : Accepted (r .width) (recipeLines r)
 
-module _ {R S : Type 0} (P : R → S → Type 0) (refuse : Refusal → ℕ → R) (reject : Refusal → ℕ → S)
-    (alike : (k : Refusal) (line : ℕ) → isNothing k ≡ false → P (refuse k line) (reject k line))
+module _ {R S : Type 0} (P : R → S → Type 0) (refuse : Refused → R) (reject : Refused → S)
+    (alike : (k : Refused) → isNothing k ≡ false → P (refuse k) (reject k))
   where
     lines-agree : (w line : ℕ) (ls : List Line) (go : R) (gone : S) → (Accepted w ls → P go gone) → P (linesPass refuse (8 / w) line ls go) (linesPass reject (8 / w) line ls gone)
     unfolding linesPass
@@ -128,19 +129,19 @@ module _ {R S : Type 0} (P : R → S → Type 0) (refuse : Refusal → ℕ → R
       where
         by : (c : LineRead) → lineChecked (8 / w) l ≡ c → ((m : Line) → c ≡ Read m → P (linesPass refuse (8 / w) (suc line) ls go) (linesPass reject (8 / w) (suc line) ls gone))
             → P (unlessSlip refuse c line (linesPass refuse (8 / w) (suc line) ls go)) (unlessSlip reject c line (linesPass reject (8 / w) (suc line) ls gone))
-        by (Slip k) e more = alike k line (checked-slip (8 / w) l k e)
+        by (Slip k) e more = alike (atLine k line) (checked-slip (8 / w) l k e)
         by (Read m) e more = more m refl
 
     pub tests-agree : (r : Recipe) (go : R) (gone : S) → (Good r → P go gone) → P (tested refuse r go) (tested reject r gone)
     tests-agree r go gone h = width (isWidth (r .width)) refl
       where
         few : (t : Bool) → leb (r .count) linesMax ≡ t → isWidth (r .width) ≡ true
-            → P (cond t (linesPass refuse (8 / r .width) 2 (recipeLines r) go) (refuse TooManyLines 0)) (cond t (linesPass reject (8 / r .width) 2 (recipeLines r) gone) (reject TooManyLines 0))
+            → P (cond t (linesPass refuse (8 / r .width) 2 (recipeLines r) go) (refuse (atLine TooManyLines 0))) (cond t (linesPass reject (8 / r .width) 2 (recipeLines r) gone) (reject (atLine TooManyLines 0)))
         few true e w = lines-agree (r .width) 2 (recipeLines r) go gone (λ a. h (record { width = w; few = leb-true (r .count) linesMax e; lines = a }))
-        few false e w = alike TooManyLines 0 refl
+        few false e w = alike (atLine TooManyLines 0) refl
 
         width : (t : Bool) → isWidth (r .width) ≡ t
-            → P (cond t (cond (leb (r .count) linesMax) (linesPass refuse (8 / r .width) 2 (recipeLines r) go) (refuse TooManyLines 0)) (refuse WidthLine 1))
-            (cond t (cond (leb (r .count) linesMax) (linesPass reject (8 / r .width) 2 (recipeLines r) gone) (reject TooManyLines 0)) (reject WidthLine 1))
+            → P (cond t (cond (leb (r .count) linesMax) (linesPass refuse (8 / r .width) 2 (recipeLines r) go) (refuse (atLine TooManyLines 0))) (refuse (atLine WidthLine 1)))
+            (cond t (cond (leb (r .count) linesMax) (linesPass reject (8 / r .width) 2 (recipeLines r) gone) (reject (atLine TooManyLines 0))) (reject (atLine WidthLine 1)))
         width true e = few (leb (r .count) linesMax) refl e
-        width false e = alike WidthLine 1 refl
+        width false e = alike (atLine WidthLine 1) refl

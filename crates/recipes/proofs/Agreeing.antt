@@ -18,15 +18,16 @@ use Rattle.recipes.specs.declared.types.Listing.{Listing}
 use Rattle.recipes.specs.declared.types.Reading.{Reading}
 use Rattle.recipes.specs.declared.types.Recipe.{Recipe}
 use Rattle.recipes.specs.declared.types.Refusal.{Refusal}
-use Rattle.recipes.specs.declared.types.Refusal.the-variants.{Nothing, Syntax, TooManyLines, WidthLine, NoSpace}
-use Rattle.recipes.specs.declared.reader.LineRead.{LineRead}
-use Rattle.recipes.specs.declared.reader.LineRead.the-variants.{Read, Slip}
+use Rattle.recipes.specs.declared.types.Refusal.the-variants.{Syntax, TooManyLines, WidthLine, NoSpace}
+use Rattle.recipes.specs.declared.types.Refused.{Refused}
+use Rattle.recipes.specs.declared.lines.LineRead.{LineRead}
+use Rattle.recipes.specs.declared.lines.LineRead.the-variants.{Read, Slip}
 use Rattle.recipes.specs.declared.reader.Digit.{Digit}
 use Rattle.recipes.specs.declared.reader.Digit.the-variants.{Is, Bad}
 use Rattle.recipes.specs.declared.reader.VerbRead.{VerbRead}
 use Rattle.recipes.specs.declared.reader.VerbRead.the-variants.{Known, Unknown}
 use Rattle.recipes.specs.Text.{ascii, sameBytes, before, after}
-use Rattle.recipes.specs.Recipe.{linesMax, isNothing, takesTwo, isWidth, recipeLines, unused, lineChecked, Names, Accepted}
+use Rattle.recipes.specs.Recipe.{linesMax, numberOf, atLine, noRefusal, isNothing, takesTwo, isWidth, recipeLines, unused, lineChecked, Names, Accepted}
 use Rattle.recipes.specs.Reader.{refusedAt, verbOf, digitOf, onlyDigit, withOne, withTwo, oneField, twoFields, fieldsOf, thenChecked, lineOf, orSlip, linesOf, widthDigit, widthLine, fromFirst, readOf}
 use Rattle.recipes.specs.Listing.{linesPass, tested, listingOf, stepsOf, over, listed, translateOf}
 use Rattle.recipes.proofs.Accepting.{Good, no-read, checked-names, checked-same, checked-slip, names-checked, tests-agree}
@@ -34,7 +35,7 @@ use Rattle.recipes.proofs.Accepting.{Good, no-read, checked-names, chec
 -- ---- a slip has a number
 
 abbrev pub HasNumber : LineRead → Type 0
-HasNumber (Slip k) = isNothing k ≡ false
+HasNumber (Slip k) = eqb (numberOf k) 0 ≡ false
 HasNumber (Read l) = Unit {0}
 
 one-number : (v : Verb) (d : Digit) → HasNumber (withOne v d)
@@ -89,9 +90,9 @@ line-names n row m e = then-names n (fieldsOf (verbOf (before 9 row)) (after 9 r
 -- ---- a reading
 
 abbrev Sound : Reading → Type 0
-Sound r = isNothing (r .refusal) ≡ true → Good (r .recipe)
+Sound r = isNothing (r .refused) ≡ true → Good (r .recipe)
 
-refused-sound : (k : Refusal) (line : ℕ) → isNothing k ≡ false → Sound (refusedAt k line)
+refused-sound : (k : Refusal) (line : ℕ) → eqb (numberOf k) 0 ≡ false → Sound (refusedAt k line)
 refused-sound k line e h = absurd (false≢true (sym e ∙ h))
 
 snoc-accepted : (w : ℕ) (ls : List Line) (l : Line) → Accepted w ls → Names (8 / w) l → Accepted w (ls ++ (l ∷ []))
@@ -155,42 +156,42 @@ first-sound row (next ∷ more) = go (eqb (widthLine row) 0) refl
     go true e = refused-sound WidthLine 1 refl
     go false e = lines-sound (widthLine row) [] next more (line-width row (eqb-false (widthLine row) 0 e)) (omega arith) tt
 
-pub read-sound : (text : List ℕ) → isNothing (readOf text .refusal) ≡ true → Good (readOf text .recipe)
+pub read-sound : (text : List ℕ) → isNothing (readOf text .refused) ≡ true → Good (readOf text .recipe)
 unfolding readOf
 read-sound text = first-sound (before 10 text) (after 10 text)
 
 -- ---- and its translation
 
-passes : {R : Type 0} (refuse : Refusal → ℕ → R) (w line : ℕ) (ls : List Line) (go : R) → Accepted w ls → linesPass refuse (8 / w) line ls go ≡ go
+passes : {R : Type 0} (refuse : Refused → R) (w line : ℕ) (ls : List Line) (go : R) → Accepted w ls → linesPass refuse (8 / w) line ls go ≡ go
 unfolding linesPass
 passes refuse w line [] go a = refl
 passes refuse w line (l ∷ ls) go a = rw (names-checked (8 / w) l (a .0)) (passes refuse w (suc line) ls go (a .1))
 
 -- a good recipe passes all tests
-pub good-passes : {R : Type 0} (refuse : Refusal → ℕ → R) (r : Recipe) (go : R) → Good r → tested refuse r go ≡ go
+pub good-passes : {R : Type 0} (refuse : Refused → R) (r : Recipe) (go : R) → Good r → tested refuse r go ≡ go
 good-passes refuse r go g = rw (g .width, le-leb (r .count) linesMax (g .few)) (passes refuse (r .width) 2 (recipeLines r) go (g .lines))
 
 pub good-translates : (r : Recipe) (slots : List Step) → Good r → stepsOf (r .width) (recipeLines r) ≤ length slots
-    → translateOf r slots ≡ listed Nothing 0 (stepsOf (r .width) (recipeLines r)) (over (listingOf (r .width) (recipeLines r)) slots)
+    → translateOf r slots ≡ listed noRefusal (stepsOf (r .width) (recipeLines r)) (over (listingOf (r .width) (recipeLines r)) slots)
 unfolding translateOf
 good-translates r slots g h =
-    good-passes (λ k line. listed k line 0 slots) r _ g ∙ rw (le-leb (stepsOf (r .width) (recipeLines r)) (length slots) h)
+    good-passes (λ k. listed k 0 slots) r _ g ∙ rw (le-leb (stepsOf (r .width) (recipeLines r)) (length slots) h)
 
 -- and only a good recipe is translated, where there is room
-pub translated-good : (r : Recipe) (slots : List Step) → isNothing (translateOf r slots .refusal) ≡ true → Good r × (stepsOf (r .width) (recipeLines r) ≤ length slots)
+pub translated-good : (r : Recipe) (slots : List Step) → isNothing (translateOf r slots .refused) ≡ true → Good r × (stepsOf (r .width) (recipeLines r) ≤ length slots)
 unfolding translateOf
 translated-good r slots =
-    tests-agree (λ (l : Listing) (u : Unit {0}). isNothing (l .refusal) ≡ true → Good r × (stepsOf (r .width) (recipeLines r) ≤ length slots)) (λ k line. listed k line 0 slots) (λ k line. tt)
-    (λ k line e h. absurd (false≢true (sym e ∙ h))) r _ tt (λ g. room g (leb (stepsOf (r .width) (recipeLines r)) (length slots)) refl)
+    tests-agree (λ (l : Listing) (u : Unit {0}). isNothing (l .refused) ≡ true → Good r × (stepsOf (r .width) (recipeLines r) ≤ length slots)) (λ k. listed k 0 slots) (λ k. tt)
+    (λ k e h. absurd (false≢true (sym e ∙ h))) r _ tt (λ g. room g (leb (stepsOf (r .width) (recipeLines r)) (length slots)) refl)
   where
     room : Good r → (t : Bool) → leb (stepsOf (r .width) (recipeLines r)) (length slots) ≡ t
-        → isNothing (cond t (listed Nothing 0 (stepsOf (r .width) (recipeLines r)) (over (listingOf (r .width) (recipeLines r)) slots)) (listed NoSpace 0 0 slots) .refusal) ≡ true
+        → isNothing (cond t (listed noRefusal (stepsOf (r .width) (recipeLines r)) (over (listingOf (r .width) (recipeLines r)) slots)) (listed (atLine NoSpace 0) 0 slots) .refused) ≡ true
         → Good r × (stepsOf (r .width) (recipeLines r) ≤ length slots)
     room g true e h = (g, leb-true (stepsOf (r .width) (recipeLines r)) (length slots) e)
     room g false e h = absurd (false≢true h)
 
-pub read-translates : (text : List ℕ) (slots : List Step) → isNothing (readOf text .refusal) ≡ true
+pub read-translates : (text : List ℕ) (slots : List Step) → isNothing (readOf text .refused) ≡ true
     → let r = readOf text .recipe in
     stepsOf (r .width) (recipeLines r) ≤ length slots
-    → translateOf r slots ≡ listed Nothing 0 (stepsOf (r .width) (recipeLines r)) (over (listingOf (r .width) (recipeLines r)) slots)
+    → translateOf r slots ≡ listed noRefusal (stepsOf (r .width) (recipeLines r)) (over (listingOf (r .width) (recipeLines r)) slots)
 read-translates text slots e h = good-translates (readOf text .recipe) slots (read-sound text e) h

@@ -23,16 +23,16 @@ use Rattle.recipes.specs.declared.reader.VerbRead.{VerbRead}
 use Rattle.recipes.specs.declared.reader.VerbRead.the-variants.{Known, Unknown}
 use Rattle.recipes.specs.declared.reader.Digit.{Digit}
 use Rattle.recipes.specs.declared.reader.Digit.the-variants.{Is, Bad}
-use Rattle.recipes.specs.declared.reader.LineRead.{LineRead}
-use Rattle.recipes.specs.declared.reader.LineRead.the-variants.{Read, Slip}
+use Rattle.recipes.specs.declared.lines.LineRead.{LineRead}
+use Rattle.recipes.specs.declared.lines.LineRead.the-variants.{Read, Slip}
 use Rattle.recipes.specs.Text.{ascii, sameBytes, before, after}
-use Rattle.recipes.specs.Recipe.{linesMax, isNothing, takesTwo}
+use Rattle.recipes.specs.Recipe.{linesMax, numberOf, isNothing, takesTwo}
 use Rattle.recipes.specs.Reader.{refusedAt, verbOf, digitOf, onlyDigit, withTwo, oneField, twoFields, fieldsOf, lineOf, linesOf, widthLine, fromFirst, readOf}
 use Rattle.recipes.specs.Printer.{textMax, readingPrinted, answerOf}
 use Rattle.recipes.proofs.Texts.{cond-same}
 use Rattle.recipes.proofs.Accepting.{no-read}
 use Rattle.recipes.proofs.Agreeing.{HasNumber, line-number}
-use Rattle.recipes.proofs.Lines.{lines-cut, lines-next}
+use Rattle.recipes.proofs.LineByLine.{lines-cut, lines-next}
 
 or-less : (a b : ℕ) → (a ≤ b) ⊎ (b < a)
 or-less a b = go (decLe a b)
@@ -141,17 +141,17 @@ long-width row h =
 
 -- ---- a text that is refused, whatever follows
 
-record Refused (read : List ℕ → Reading) : Type 0 where
+record Met (read : List ℕ → Reading) : Type 0 where
   kind : Refusal
   line : ℕ
-  some : isNothing kind ≡ false
+  some : eqb (numberOf kind) 0 ≡ false
   same : (s : List ℕ) → read s ≡ refusedAt kind line
 
 -- a refusal, and one that is met later
-met : {read : List ℕ → Reading} (k : Refusal) (line : ℕ) → isNothing k ≡ false → ((s : List ℕ) → read s ≡ refusedAt k line) → Refused read
+met : {read : List ℕ → Reading} (k : Refusal) (line : ℕ) → eqb (numberOf k) 0 ≡ false → ((s : List ℕ) → read s ≡ refusedAt k line) → Met read
 met k line n f = record { kind = k; line = line; some = n; same = f }
 
-later : {read rest : List ℕ → Reading} → ((s : List ℕ) → read s ≡ rest s) → Refused rest → Refused read
+later : {read rest : List ℕ → Reading} → ((s : List ℕ) → read s ≡ rest s) → Met rest → Met read
 later f r = met (r .kind) (r .line) (r .some) (λ s. f s ∙ r .same s)
 
 module _ (w : ℕ) (ls : List Line) where
@@ -169,7 +169,7 @@ module _ (w : ℕ) (ls : List Line) where
 
 -- A line that is read has at most 9 bytes and its byte 10, and there are at most `linesMax`: 330 bytes meet a refusal.
 lines-refused : (w : ℕ) (ls : List Line) (row : List ℕ) (more : List (List ℕ)) → length ls ≤ linesMax → 330 ≤ length row + behind more + 10 * length ls
-    → Refused (λ s. linesOf w ls (front row more s) (rest more s))
+    → Met (λ s. linesOf w ls (front row more s) (rest more s))
 lines-refused w ls row [] few h =
     let long : (s : List ℕ) → 10 ≤ length (row ++ before 10 s) = λ s. rw length-append (omega arith) in
     ⊎-elim (λ e. met TooManyLines (length ls + 2) refl (λ s. many w ls (row ++ before 10 s) (after 10 s) e (omega (arith, long s))))
@@ -181,13 +181,13 @@ lines-refused w ls row (next ∷ more) few h =
     (eq-or-lt-of-le few)
   where
     by : length ls < linesMax → (c : LineRead) → lineOf (8 / w) row ≡ c → HasNumber c → (10 ≤ length row) ⊎ (length row < 10)
-        → ((l : Line) → length row < 10 → Refused (λ s. linesOf w (ls ++ (l ∷ [])) (front next more s) (rest more s)))
-        → Refused (λ s. linesOf w ls row (front next more s ∷ rest more s))
+        → ((l : Line) → length row < 10 → Met (λ s. linesOf w (ls ++ (l ∷ [])) (front next more s) (rest more s)))
+        → Met (λ s. linesOf w ls row (front next more s ∷ rest more s))
     by lt (Slip k) e n d on = met k (length ls + 2) n (λ s. lines-next w ls row (front next more s) (rest more s) lt ∙ rw e)
     by lt (Read l) e n (inl i) on = absurd (no-read (sym (long-row (8 / w) row i) ∙ e))
     by lt (Read l) e n (inr i) on = later (λ s. lines-next w ls row (front next more s) (rest more s) lt ∙ rw e) (on l i)
 
-first-refused : (row : List ℕ) (more : List (List ℕ)) → 340 ≤ length row + behind more → Refused (λ s. fromFirst (front row more s) (rest more s))
+first-refused : (row : List ℕ) (more : List (List ℕ)) → 340 ≤ length row + behind more → Met (λ s. fromFirst (front row more s) (rest more s))
 first-refused row [] h = met WidthLine 1 refl (λ s. go (row ++ before 10 s) (after 10 s) (rw length-append (omega arith)))
   where
     go : (r : List ℕ) (more : List (List ℕ)) → 10 ≤ length r → fromFirst r more ≡ refusedAt WidthLine 1
@@ -196,14 +196,14 @@ first-refused row [] h = met WidthLine 1 refl (λ s. go (row ++ before 10 s) (af
 first-refused row (next ∷ more) h = go (eqb (widthLine row) 0) refl (or-less 10 (length row))
   where
     go : (t : Bool) → eqb (widthLine row) 0 ≡ t → (10 ≤ length row) ⊎ (length row < 10)
-        → Refused (λ s. cond t (refusedAt WidthLine 1) (linesOf (widthLine row) [] (front next more s) (rest more s)))
+        → Met (λ s. cond t (refusedAt WidthLine 1) (linesOf (widthLine row) [] (front next more s) (rest more s)))
     go true e d = met WidthLine 1 refl (λ s. refl)
     go false e (inl i) = absurd (eqb-false (widthLine row) 0 e (long-width row i))
     go false e (inr i) = lines-refused (widthLine row) [] next more (omega arith) (omega arith)
 
 -- ---- texts
 
-read-refused : (p : List ℕ) → 340 ≤ length p → Refused (λ s. readOf (p ++ s))
+read-refused : (p : List ℕ) → 340 ≤ length p → Met (λ s. readOf (p ++ s))
 unfolding readOf
 read-refused p h =
     later (λ s. ap₂ fromFirst (parts-on p s .0) (parts-on p s .1)) (first-refused (before 10 p) (after 10 p) (omega (arith, parts-size 10 p)))
@@ -218,7 +218,7 @@ cut-reads text = ⊎-elim (λ l. ap readOf (take-all textMax text l)) more (or-l
         ap readOf (sym (append-nil (take textMax text))) ∙ r .same [] ∙ sym (r .same (drop textMax text)) ∙ ap readOf (take-append-drop textMax text)
 
 -- and a longer text is refused
-pub long-refused : (text : List ℕ) → textMax < length text → isNothing (readOf text .refusal) ≡ false
+pub long-refused : (text : List ℕ) → textMax < length text → isNothing (readOf text .refused) ≡ false
 long-refused text h =
     let r = read-refused text (omega arith) in
     rw (← append-nil text, r .same []) (r .some)

@@ -168,7 +168,7 @@ pub steps-few : (r : Recipe) → Good r → stepsOf (r .width) (recipeLines r) �
 steps-few r g = few-steps r (width-is (r .width) (g .width) .1) (g .few)
 
 -- what was translated is the listing: its steps are the first `count` slots
-translated-listing : (r : Recipe) (slots : List Step) → isNothing (translateOf r slots .refusal) ≡ true
+translated-listing : (r : Recipe) (slots : List Step) → isNothing (translateOf r slots .refused) ≡ true
     → let t = translateOf r slots in (t .count ≡ stepsOf (r .width) (recipeLines r)) × (take (t .count) (t .steps) ≡ listingOf (r .width) (recipeLines r))
 translated-listing r slots e =
     let g = translated-good r slots e in
@@ -193,16 +193,16 @@ pub from-text : FromText
 from-text text slots e room =
     let r = readOf text .recipe in
     let g = read-sound text e in
-    ap (λ (t : Listing). isNothing (t .refusal)) (good-translates r slots g (omega (arith, steps-few r g)))
+    ap (λ (t : Listing). isNothing (t .refused)) (good-translates r slots g (omega (arith, steps-few r g)))
 
 -- in the words of the contracts: t and `left` are what `translate` says and leaves, ran what `run` or `run_array` answers
-module _ (r : Recipe) (slots left : List Step) (t : Translated) (made : translated t left ≡ translateOf r slots) (fine : isNothing (t .refusal) ≡ true) (s : State) (ok : EightLongs (s .d)) where
+module _ (r : Recipe) (slots left : List Step) (t : Translated) (made : translated t left ≡ translateOf r slots) (fine : isNothing (t .refused) ≡ true) (s : State) (ok : EightLongs (s .d)) where
   abbrev listing : List Step
   listing = take (t .count) left
 
   called : (b : ℕ) (bs : List ℕ) → t .count ≤ total b bs → Finishes (r .width) (recipeLines r) listing s b bs
   called b bs enough =
-      subst⁻¹ (λ (l : Listing). isNothing (l .refusal) ≡ true → l .count ≤ total b bs → Finishes (r .width) (recipeLines r) (take (l .count) (l .steps)) s b bs) made
+      subst⁻¹ (λ (l : Listing). isNothing (l .refused) ≡ true → l .count ≤ total b bs → Finishes (r .width) (recipeLines r) (take (l .count) (l .steps)) s b bs) made
       (λ e few. one-by-one r slots e s ok b bs few) fine enough
 
   -- run whole

@@ -32,9 +32,10 @@ use Rattle.recipes.specs.declared.types.Verb.the-variants.{Add, Neg}
 use Rattle.recipes.specs.declared.types.Line.{Line}
 use Rattle.recipes.specs.declared.types.RecipeRun.{RecipeRun}
 use Rattle.recipes.specs.Text.{ascii, sameBytes, before, after}
+use Rattle.recipes.specs.declared.lines.Act.the-variants.{Two}
 use Rattle.recipes.specs.Recipe.{isNothing, lineChecked}
 use Rattle.recipes.specs.Reader.{verbOf, digitOf, lineOf, linesOf, widthLine, readOf}
-use Rattle.recipes.specs.Listing.{two, risingRest, lineSteps, listingOf}
+use Rattle.recipes.specs.Listing.{stepOf, risingRest, lineSteps, listingOf}
 use Rattle.recipes.specs.Rule.{numbersOf, registersOf, saidBy, rulesOf}
 use Rattle.recipes.specs.Demand.{Meets, textRunOf}
 
@@ -50,13 +51,13 @@ loaded d0 d1 d2 d3 = record { d = d0 ∷ d1 ∷ d2 ∷ d3 ∷ 0 ∷ 0 ∷ 0 ∷ 
 abbrev Meeting : (List ℕ → State → RecipeRun) → Type 0
 Meeting f = (text : List ℕ) (s : State) → f text s ≡ textRunOf text s
 
-empty-accepted : isNothing (textRunOf (ascii "width\t1\n") (loaded 0 0 0 0) .refusal) ≡ true
+empty-accepted : isNothing (textRunOf (ascii "width\t1\n") (loaded 0 0 0 0) .refused) ≡ true
 unfolding textRunOf readOf linesOf widthLine digitOf sameBytes before after
 empty-accepted = refl
 
-pub refuses-all : (f : List ℕ → State → RecipeRun) → Meeting f → ((text : List ℕ) (s : State) → isNothing (f text s .refusal) ≡ false) → ⊥
+pub refuses-all : (f : List ℕ → State → RecipeRun) → Meeting f → ((text : List ℕ) (s : State) → isNothing (f text s .refused) ≡ false) → ⊥
 refuses-all f meets refuses =
-    true≢false (sym empty-accepted ∙ (ap (λ (r : RecipeRun). isNothing (r .refusal)) (sym (meets _ (loaded 0 0 0 0))) ∙ refuses _ (loaded 0 0 0 0)))
+    true≢false (sym empty-accepted ∙ (ap (λ (r : RecipeRun). isNothing (r .refused)) (sym (meets _ (loaded 0 0 0 0))) ∙ refuses _ (loaded 0 0 0 0)))
 
 -- 1 is negated to FFFFFFFF
 negated : getD (textRunOf (ascii "width\t1\nneg\t0\n") (loaded 1 0 0 0) .d) 0 0 ≡ 0xffff_ffff
@@ -151,7 +152,7 @@ module _ (d0 d1 d2 d3 : ℕ) (rest a : List ℕ) (f : Flags) where
   begun = record { d = d0 ∷ d1 ∷ d2 ∷ d3 ∷ rest; a = a; flags = f }
 
   abbrev dropping : Ran
-  dropping = runOf performOf (two TwoOp.Add 0 2 ∷ two TwoOp.Add 1 3 ∷ []) begun 0 2
+  dropping = runOf performOf (stepOf (Two TwoOp.Add) 0 2 ∷ stepOf (Two TwoOp.Add) 1 3 ∷ []) begun 0 2
 
   -- number 1 as the run leaves it, and as the rule has it
   carry-gone : getD (numbersOf 2 (dropping .state .d)) 1 0 ≡ (low 32 d2 + low 32 d0 + 0) % 2 ^ 32 + 2 ^ 32 * ((low 32 d3 + low 32 d1 + 0) % 2 ^ 32 + 2 ^ 32 * 0)

@@ -7,14 +7,14 @@ use lib.ListN.{length, take, drop, getD, drop-of-length-le}
 use lib.Seq.{drop-cons, getD-take, length-take-le}
 use Rattle.recipes.specs.declared.types.Line.{Line}
 use Rattle.recipes.specs.declared.types.Refusal.{Refusal}
-use Rattle.recipes.specs.declared.types.Refusal.the-variants.{Nothing}
-use Rattle.recipes.specs.declared.reader.LineRead.the-variants.{Read, Slip}
-use Rattle.recipes.specs.Recipe.{unused, lineChecked}
+use Rattle.recipes.specs.declared.types.Refused.{Refused}
+use Rattle.recipes.specs.declared.lines.LineRead.the-variants.{Read, Slip}
+use Rattle.recipes.specs.Recipe.{atLine, noRefusal, unused, lineChecked}
 use Rattle.recipes.specs.Listing.{unlessSlip, linesPass, stepsAt, stepsOf}
-use Rattle.recipes.specs.Making.{told, refused, judgeLines}
+use Rattle.recipes.specs.Making.{translation, noSteps, judgeLines}
 use Rattle.recipes.proofs.Steps.{steps-more}
 
-module _ {R : Type 0} (refuse : Refusal → ℕ → R) (n : ℕ) where
+module _ {R : Type 0} (refuse : Refused → R) (n : ℕ) where
   -- the lines from k on
   pass-on : (line : ℕ) (ls : List Line) (k : ℕ) (go : R) → k < length ls
       → linesPass refuse n line (drop k ls) go ≡ unlessSlip refuse (lineChecked n (getD ls k unused)) line (linesPass refuse n (suc line) (drop (suc k) ls) go)
@@ -31,7 +31,7 @@ pub record Passed (w count : ℕ) (lines : List Line) (steps k : ℕ) : Type 0 w
   pub within : k ≤ count
   pub counted : steps ≡ stepsOf w (take k lines)
   pub few : steps ≤ 8 * k
-  pub rest : judgeLines w (take count lines) ≡ linesPass refused (8 / w) (k + 2) (drop k (take count lines)) (told Nothing 0 (stepsOf w (take count lines)))
+  pub rest : judgeLines w (take count lines) ≡ linesPass noSteps (8 / w) (k + 2) (drop k (take count lines)) (translation noRefusal (stepsOf w (take count lines)))
 
 pub passed-none : (w count : ℕ) (lines : List Line) → count ≤ length lines → Passed w count lines 0 0
 unfolding stepsOf
@@ -40,14 +40,14 @@ passed-none w count lines h = record { there = h; within = omega arith; counted 
 module _ (w count : ℕ) (lines : List Line) (steps k : ℕ) (s : Passed w count lines steps k) where
   -- the next line
   turn : k < count → judgeLines w (take count lines)
-      ≡ unlessSlip refused (lineChecked (8 / w) (getD lines k unused)) (k + 2) (linesPass refused (8 / w) (suc (k + 2)) (drop (suc k) (take count lines)) (told Nothing 0 (stepsOf w (take count lines))))
+      ≡ unlessSlip noSteps (lineChecked (8 / w) (getD lines k unused)) (k + 2) (linesPass noSteps (8 / w) (suc (k + 2)) (drop (suc k) (take count lines)) (translation noRefusal (stepsOf w (take count lines))))
   turn h =
       let long : length (take count lines) ≡ count = length-take-le count lines (s .there) in
-      s .rest ∙ pass-on refused (8 / w) (k + 2) (take count lines) k (told Nothing 0 (stepsOf w (take count lines))) (omega arith)
-      ∙ ap (λ (l : Line). unlessSlip refused (lineChecked (8 / w) l) (k + 2) (linesPass refused (8 / w) (suc (k + 2)) (drop (suc k) (take count lines)) (told Nothing 0 (stepsOf w (take count lines)))))
+      s .rest ∙ pass-on noSteps (8 / w) (k + 2) (take count lines) k (translation noRefusal (stepsOf w (take count lines))) (omega arith)
+      ∙ ap (λ (l : Line). unlessSlip noSteps (lineChecked (8 / w) l) (k + 2) (linesPass noSteps (8 / w) (suc (k + 2)) (drop (suc k) (take count lines)) (translation noRefusal (stepsOf w (take count lines)))))
       (getD-take count lines k unused h)
 
-  pub passed-slip : (r : Refusal) → k < count → lineChecked (8 / w) (getD lines k unused) ≡ Slip r → refused r (k + 2) ≡ judgeLines w (take count lines)
+  pub passed-slip : (r : Refusal) → k < count → lineChecked (8 / w) (getD lines k unused) ≡ Slip r → noSteps (atLine r (k + 2)) ≡ judgeLines w (take count lines)
   passed-slip r h e = sym (turn h ∙ rw e)
 
   pub passed-more : (m : Line) (more : ℕ) → w ≤ 4 → k < count → lineChecked (8 / w) (getD lines k unused) ≡ Read m → more ≡ stepsAt (getD lines k unused .verb) * w → more ≤ 8
@@ -67,9 +67,9 @@ module _ (w count : ℕ) (lines : List Line) (steps k : ℕ) (s : Passed w count
         rest = turn h ∙ rw (e, b, a);
       }
 
-  pub passed-all : count ≤ k → told Nothing 0 steps ≡ judgeLines w (take count lines)
+  pub passed-all : count ≤ k → translation noRefusal steps ≡ judgeLines w (take count lines)
   passed-all h =
       let same : k ≡ count = let a = s .within in omega arith in
       let long : length (take count lines) ≡ count = length-take-le count lines (s .there) in
-      let done = pass-done refused (8 / w) (k + 2) (take count lines) k (told Nothing 0 (stepsOf w (take count lines))) (omega arith) in
-      sym (s .rest ∙ done ∙ ap (λ (x : ℕ). told Nothing 0 x) (ap (λ (x : ℕ). stepsOf w (take x lines)) (sym same) ∙ sym (s .counted)))
+      let done = pass-done noSteps (8 / w) (k + 2) (take count lines) k (translation noRefusal (stepsOf w (take count lines))) (omega arith) in
+      sym (s .rest ∙ done ∙ ap (λ (x : ℕ). translation noRefusal x) (ap (λ (x : ℕ). stepsOf w (take x lines)) (sym same) ∙ sym (s .counted)))

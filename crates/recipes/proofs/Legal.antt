@@ -8,7 +8,6 @@ use mathlib.Core.List.{List, [], _∷_, _++_}
 use Prim.Native.Nat.{ℕ, zero, suc, _+_, _*_, _/_, _≤_, _<_}
 use native.Mathlib.Omega.{arith}
 use Rattle.step.specs.declared.registers.State.{State}
-use Rattle.step.specs.declared.forms.OneOp.the-variants.{Clr}
 use Rattle.step.specs.declared.forms.Step.{Step}
 use Rattle.step.specs.Perform.{performOf}
 use Rattle.step.proofs.Promises.{Legal, performs}
@@ -17,7 +16,7 @@ use Rattle.recipes.specs.declared.types.Verb.{Verb}
 use Rattle.recipes.specs.declared.types.Verb.the-variants.{Clear, Copy, Add, Sub, Neg, Not, Halve, Down, Up}
 use Rattle.recipes.specs.declared.types.Line.{Line}
 use Rattle.recipes.specs.Recipe.{isCopy, target, Names, Accepted}
-use Rattle.recipes.specs.Listing.{one, firstStep, otherStep, withClr, highestFirst, risingRest, fallingRest, rising, falling, lineSteps, listingOf, atRest, figureOf}
+use Rattle.recipes.specs.Listing.{clrStep, firstStep, otherStep, withClr, highestFirst, risingRest, fallingRest, rising, falling, lineSteps, listingOf, atRest, figureOf}
 use Rattle.recipes.proofs.Places.{number-fits}
 
 both-legal : (ks ls : List Step) → All Legal ks → All Legal ls → All Legal (ks ++ ls)
@@ -49,7 +48,7 @@ other-legal Up p q a b = (refl, (tt, refl, b))
 there-legal : (v : Verb) (q : ℕ) (k : Step) → q < 8 → Legal k → All Legal (withClr v q k)
 there-legal v q k b h = go (isCopy v)
   where
-    go : (t : Bool) → All Legal (cond t (one Clr q ∷ k ∷ []) (k ∷ []))
+    go : (t : Bool) → All Legal (cond t (clrStep q ∷ k ∷ []) (k ∷ []))
     go true = ((refl, (tt, b)), (h, tt))
     go false = (h, tt)
 

@@ -3,7 +3,7 @@ pub mod Writing
 pub mod Steps
 pub mod Accepting
 pub mod Settling
-mod Lines
+mod LineByLine
 mod Places
 mod Judging
 mod Laying

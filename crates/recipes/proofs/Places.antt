@@ -12,12 +12,11 @@ use borrow.Author.Tests.{eqb-true, ne-eqb}
 use lib.Dec.{eqb}
 use lib.ListN.{length, take, getD, List·getD-append}
 use lib.Seq.{getD-append-add}
-use Rattle.step.specs.declared.forms.OneOp.the-variants.{Clr}
 use Rattle.step.specs.declared.forms.Step.{Step}
 use Rattle.recipes.specs.declared.types.Verb.{Verb}
 use Rattle.recipes.specs.declared.types.Line.{Line}
 use Rattle.recipes.specs.Recipe.{isCopy, target, unused}
-use Rattle.recipes.specs.Listing.{one, firstStep, otherStep, withClr, highestFirst, risingRest, fallingRest, rising, falling, lineSteps, listingOf, stepsAt, stepsOf, blank}
+use Rattle.recipes.specs.Listing.{clrStep, firstStep, otherStep, withClr, highestFirst, risingRest, fallingRest, rising, falling, lineSteps, listingOf, stepsAt, stepsOf, blank}
 use Rattle.recipes.specs.Making.{registerSteps, offsetOf}
 use Rattle.recipes.proofs.Steps.{there-length, line-length, steps-at-most}
 
@@ -30,10 +29,10 @@ pub other-steps : (v : Verb) → isCopy v ≡ false → stepsAt v ≡ 1
 other-steps v e = rw e
 
 -- a copy's first is its CLR
-pub copy-clears : (v : Verb) (k : Step) (part q : ℕ) → isCopy v && eqb part 0 ≡ true → one Clr q ≡ getD (withClr v q k) part blank
+pub copy-clears : (v : Verb) (k : Step) (part q : ℕ) → isCopy v && eqb part 0 ≡ true → clrStep q ≡ getD (withClr v q k) part blank
 copy-clears v k part q e = go (isCopy v) e
   where
-    go : (t : Bool) → t && eqb part 0 ≡ true → one Clr q ≡ getD (cond t (one Clr q ∷ k ∷ []) (k ∷ [])) part blank
+    go : (t : Bool) → t && eqb part 0 ≡ true → clrStep q ≡ getD (cond t (clrStep q ∷ k ∷ []) (k ∷ [])) part blank
     go true e = rw (eqb-true part 0 e)
     go false e = absurd (false≢true e)
 
@@ -41,7 +40,7 @@ copy-clears v k part q e = go (isCopy v) e
 pub own-step : (v : Verb) (k : Step) (part q : ℕ) → part < stepsAt v → isCopy v && eqb part 0 ≡ false → k ≡ getD (withClr v q k) part blank
 own-step v k part q h e = go (isCopy v) part h e
   where
-    go : (t : Bool) (part : ℕ) → part < cond t 2 1 → t && eqb part 0 ≡ false → k ≡ getD (cond t (one Clr q ∷ k ∷ []) (k ∷ [])) part blank
+    go : (t : Bool) (part : ℕ) → part < cond t 2 1 → t && eqb part 0 ≡ false → k ≡ getD (cond t (clrStep q ∷ k ∷ []) (k ∷ [])) part blank
     go true zero h e = absurd (false≢true (sym e))
     go true (suc zero) h e = refl
     go true (suc (suc part)) h e = absurd (omega arith)

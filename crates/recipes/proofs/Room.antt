@@ -23,7 +23,7 @@ use Rattle.step.specs.declared.forms.Step.{Step}
 use Rattle.step.specs.Operations.{Row, operationOf}
 use Rattle.step.proofs.Operations.{each-row}
 use Rattle.recipes.specs.declared.types.Recipe.{Recipe}
-use Rattle.recipes.specs.declared.types.Refusal.{Refusal}
+use Rattle.recipes.specs.declared.types.Refused.{Refused}
 use Rattle.recipes.specs.Text.{Written, written, writing, ascii, decimalIn, decimalOf}
 use Rattle.recipes.specs.Recipe.{numberOf, isNothing}
 use Rattle.recipes.specs.Reader.{readOf}
@@ -111,33 +111,33 @@ listing-short w ks =
     let d = marked-short 9 (clocksOf ks) in
     rw (length-append, length-append, length-append, length-append, length-append, length-append, length-append) (omega arith)
 
-refusal-short : (k : Refusal) (line : ℕ) → length (refusalText k line) ≤ 50
+refusal-short : (k : Refused) → length (refusalText k) ≤ 50
 unfolding refusalText
-refusal-short k line =
-    let a = marked-short 9 (numberOf k) in
-    let b = marked-short 9 line in
+refusal-short k =
+    let a = marked-short 9 (numberOf (k .refusal)) in
+    let b = marked-short 9 (k .line) in
     rw (length-append, length-append, length-append) (omega arith)
 
 printed-short : (r : Recipe) → length (printedOf r) ≤ printMax
 unfolding printedOf
-printed-short r = go (isNothing (translateOf r blanks .refusal))
+printed-short r = go (isNothing (translateOf r blanks .refused))
   where
     go : (t : Bool)
-        → length (cond t (listingText (r .width) (take (translateOf r blanks .count) (translateOf r blanks .steps))) (refusalText (translateOf r blanks .refusal) (translateOf r blanks .line))) ≤ printMax
+        → length (cond t (listingText (r .width) (take (translateOf r blanks .count) (translateOf r blanks .steps))) (refusalText (translateOf r blanks .refused))) ≤ printMax
     go true =
         let few = blanks-count r in
         let many = length-take (translateOf r blanks .count) (translateOf r blanks .steps) in
         let short = listing-short (r .width) (take (translateOf r blanks .count) (translateOf r blanks .steps)) in
         omega arith
-    go false = let short = refusal-short (translateOf r blanks .refusal) (translateOf r blanks .line) in omega arith
+    go false = let short = refusal-short (translateOf r blanks .refused) in omega arith
 
 pub answer-short : (text : List ℕ) → length (answerOf text) ≤ printMax
 unfolding answerOf
-answer-short text = go (isNothing (readOf text .refusal))
+answer-short text = go (isNothing (readOf text .refused))
   where
-    go : (t : Bool) → length (cond t (printedOf (readOf text .recipe)) (refusalText (readOf text .refusal) (readOf text .line))) ≤ printMax
+    go : (t : Bool) → length (cond t (printedOf (readOf text .recipe)) (refusalText (readOf text .refused))) ≤ printMax
     go true = printed-short (readOf text .recipe)
-    go false = let short = refusal-short (readOf text .refusal) (readOf text .line) in omega arith
+    go false = let short = refusal-short (readOf text .refused) in omega arith
 
 -- ---- what is written
 

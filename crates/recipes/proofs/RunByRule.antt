@@ -22,17 +22,16 @@ use Rattle.recipes.specs.declared.types.Verb.{Verb}
 use Rattle.recipes.specs.declared.types.Verb.the-variants.{Clear, Copy, Add, Sub, Neg, Not, Halve, Down, Up}
 use Rattle.recipes.specs.declared.types.Line.{Line}
 use Rattle.recipes.specs.declared.types.Recipe.{Recipe}
-use Rattle.recipes.specs.declared.types.Refusal.the-variants.{Nothing}
 use Rattle.recipes.specs.declared.types.Listing.{Listing}
 use Rattle.recipes.specs.declared.types.Codes.{Codes}
 use Rattle.recipes.specs.declared.types.Codes.the-variants.{Known}
 use Rattle.recipes.specs.declared.types.RecipeRun.{RecipeRun}
-use Rattle.recipes.specs.Recipe.{isNothing, unused, recipeLines}
+use Rattle.recipes.specs.Recipe.{noRefusal, isNothing, unused, recipeLines}
 use Rattle.recipes.specs.Reader.{readOf}
 use Rattle.recipes.specs.Listing.{stepsMax, listingOf, stepsOf, over, listed, translateOf, blanks}
 use Rattle.recipes.specs.Rule.{codesOf, Account, saidBy, ruleOf, rulesOf}
 use Rattle.recipes.specs.Demand.{EightLongs, Holds, Meets, ranByRule, untouched, recipeRunOf, textRunOf}
-use Rattle.recipes.specs.Making.{toldAfter, codesAfter}
+use Rattle.recipes.specs.Making.{codesBehind, codesAfter}
 use Rattle.recipes.proofs.Accepting.{Good, width-is, tests-agree}
 use Rattle.recipes.proofs.Settling.{whole-fits, blanks-fit, blanks-count}
 use Rattle.recipes.proofs.Agreeing.{read-sound, good-passes, good-translates, translated-good}
@@ -45,7 +44,7 @@ longs-owned d us p e = record { count = length-unmapped ℕ d 8 e; each = λ i. 
 -- ---- what is told of the flags
 
 -- the last of the lines decides
-pub codes-last : (ls : List Line) (k : ℕ) (f : Flags) → length ls ≡ suc k → codesAfter ls f ≡ toldAfter (getD ls k unused .verb) f
+pub codes-last : (ls : List Line) (k : ℕ) (f : Flags) → length ls ≡ suc k → codesAfter ls f ≡ codesBehind (getD ls k unused .verb) f
 codes-last [] k f h = absurd (omega arith)
 codes-last (l ∷ []) zero f h = refl
 codes-last (l ∷ []) (suc k) f h = absurd (omega arith)
@@ -54,14 +53,14 @@ codes-last (l ∷ m ∷ ls) (suc k) f h = codes-last (m ∷ ls) k f (omega arith
 
 -- as the code reads it: line `count - 1` of the array
 pub codes-of : (lines : List Line) (count : ℕ) (f : Flags) → 0 < count → count ≤ length lines
-    → toldAfter (getD lines (count - 1) unused .verb) f ≡ codesAfter (take count lines) f
+    → codesBehind (getD lines (count - 1) unused .verb) f ≡ codesAfter (take count lines) f
 codes-of lines count f some h =
     sym
     (codes-last (take count lines) (count - 1) f (length-take-le count lines h ∙ omega arith)
-    ∙ ap (λ (l : Line). toldAfter (l .verb) f) (getD-take count lines (count - 1) unused (omega arith)))
+    ∙ ap (λ (l : Line). codesBehind (l .verb) f) (getD-take count lines (count - 1) unused (omega arith)))
 
 -- flags that are as told are told
-line-told : (v : Verb) (n s d : ℕ) (f : Flags) → Holds (codesOf n v s d) f → toldAfter v f ≡ codesOf n v s d
+line-told : (v : Verb) (n s d : ℕ) (f : Flags) → Holds (codesOf n v s d) f → codesBehind v f ≡ codesOf n v s d
 line-told Clear n s d f h = refl
 line-told Copy n s d f h = refl
 line-told Add n s d f h = ap Known h
@@ -84,35 +83,34 @@ codes-told w (l ∷ ls) s f h = lines-told w l ls (saidBy w s) f h
 
 -- ---- a recipe that is refused, and one that is run: what the translator made of it
 
-refused-by : (r : Recipe) (s : State) → isNothing (translateOf r blanks .refusal) ≡ false
-    → untouched s (translateOf r blanks .refusal) (translateOf r blanks .line) ≡ recipeRunOf r s
+refused-by : (r : Recipe) (s : State) → isNothing (translateOf r blanks .refused) ≡ false
+    → untouched s (translateOf r blanks .refused) ≡ recipeRunOf r s
 unfolding translateOf recipeRunOf
 refused-by r s =
-    tests-agree (λ (l : Listing) (t : RecipeRun). isNothing (l .refusal) ≡ false → untouched s (l .refusal) (l .line) ≡ t) (λ k line. listed k line 0 blanks) (untouched s)
-    (λ k line e h. refl) r _ _ (λ g h. absurd (true≢false (sym (ap (λ (l : Listing). isNothing (l .refusal)) (whole-fits (r .width) (recipeLines r) blanks (blanks-fit r (width-is (r .width) (g .width) .1) (g .few)))) ∙ h)))
+    tests-agree (λ (l : Listing) (t : RecipeRun). isNothing (l .refused) ≡ false → untouched s (l .refused) ≡ t) (λ k. listed k 0 blanks) (untouched s)
+    (λ k e h. refl) r _ _ (λ g h. absurd (true≢false (sym (ap (λ (l : Listing). isNothing (l .refused)) (whole-fits (r .width) (recipeLines r) blanks (blanks-fit r (width-is (r .width) (g .width) .1) (g .few)))) ∙ h)))
 
-pub run-refused : (r : Recipe) (s : State) (made : Listing) → made ≡ translateOf r blanks → isNothing (made .refusal) ≡ false
-    → untouched s (made .refusal) (made .line) ≡ recipeRunOf r s
-run-refused r s made is = subst⁻¹ (λ (l : Listing). isNothing (l .refusal) ≡ false → untouched s (l .refusal) (l .line) ≡ recipeRunOf r s) is (refused-by r s)
+pub run-refused : (r : Recipe) (s : State) (made : Listing) → made ≡ translateOf r blanks → isNothing (made .refused) ≡ false
+    → untouched s (made .refused) ≡ recipeRunOf r s
+run-refused r s made is = subst⁻¹ (λ (l : Listing). isNothing (l .refused) ≡ false → untouched s (l .refused) ≡ recipeRunOf r s) is (refused-by r s)
 
-pub made-good : (r : Recipe) (made : Listing) → made ≡ translateOf r blanks → isNothing (made .refusal) ≡ true → Good r
-made-good r made is e = translated-good r blanks (subst (λ (l : Listing). isNothing (l .refusal) ≡ true) is e) .0
+pub made-good : (r : Recipe) (made : Listing) → made ≡ translateOf r blanks → isNothing (made .refused) ≡ true → Good r
+made-good r made is e = translated-good r blanks (subst (λ (l : Listing). isNothing (l .refused) ≡ true) is e) .0
 
 -- what the code answers of a listing and of its run
 abbrev pub answered : Listing → Ran → Codes → RecipeRun
 answered l t codes =
-    record { refusal = l .refusal; line = l .line; d = t .state .d; a = t .state .a; x = t .state .flags .x; codes = codes; steps = t .steps; clocks = t .clocks }
+    record { refused = l .refused; d = t .state .d; a = t .state .a; x = t .state .flags .x; codes = codes; steps = t .steps; clocks = t .clocks }
 
 -- a run that meets the rule answers it
 ruled-by : (r : Recipe) (s : State) (t : Ran) (k : ℕ) (slots : List Step) → Good r → Meets (r .width) (recipeLines r) s t
-    → answered (listed Nothing 0 k slots) t (codesAfter (recipeLines r) (t .state .flags)) ≡ recipeRunOf r s
+    → answered (listed noRefusal k slots) t (codesAfter (recipeLines r) (t .state .flags)) ≡ recipeRunOf r s
 unfolding recipeRunOf
 ruled-by r s t k slots g h =
     let w = r .width in
     let ls = recipeLines r in
     (λ i. record {
-      refusal = Nothing;
-      line = 0;
+      refused = noRefusal;
       d = sym (ruled-registers w (g .width) (rulesOf w ls (saidBy w s)) s (t .state) (h .rule)) i;
       a = h .rule .addresses i;
       x = h .rule .x i;
@@ -123,7 +121,7 @@ ruled-by r s t k slots g h =
     ∙ sym (good-passes (untouched s) r (ranByRule w ls s) g)
 
 -- the listing that was made of a good recipe meets it, run whole
-pub run-ruled : (r : Recipe) (s : State) (made : Listing) (t : Ran) (codes : Codes) → made ≡ translateOf r blanks → isNothing (made .refusal) ≡ true → EightLongs (s .d)
+pub run-ruled : (r : Recipe) (s : State) (made : Listing) (t : Ran) (codes : Codes) → made ≡ translateOf r blanks → isNothing (made .refused) ≡ true → EightLongs (s .d)
     → t ≡ runOf performOf (take (made .count) (made .steps)) s 0 stepsMax → codes ≡ codesAfter (recipeLines r) (t .state .flags) → answered made t codes ≡ recipeRunOf r s
 run-ruled r s made t codes is e ok ran told =
     let g = made-good r made is e in
@@ -131,16 +129,16 @@ run-ruled r s made t codes is e ok ran told =
     let few : made .count ≤ stepsMax = subst⁻¹ (λ (l : Listing). l .count ≤ stepsMax) is (blanks-count r) in
     let meets : Meets (r .width) (recipeLines r) s t =
     subst⁻¹ (Meets (r .width) (recipeLines r) s) ran
-    (subst⁻¹ (λ (l : Listing). isNothing (l .refusal) ≡ true → l .count ≤ stepsMax → Meets (r .width) (recipeLines r) s (runOf performOf (take (l .count) (l .steps)) s 0 stepsMax)) is
+    (subst⁻¹ (λ (l : Listing). isNothing (l .refused) ≡ true → l .count ≤ stepsMax → Meets (r .width) (recipeLines r) s (runOf performOf (take (l .count) (l .steps)) s 0 stepsMax)) is
     (λ e few. one-by-one r blanks e s ok stepsMax [] few .meets) e few) in
     ap₂ {C = RecipeRun} (λ (l : Listing) (c : Codes). answered l t c) (is ∙ good-translates r blanks g fits) told
     ∙ ruled-by r s t (stepsOf (r .width) (recipeLines r)) (over (listingOf (r .width) (recipeLines r)) blanks) g meets
 
 -- a text that is read is run as its recipe is
-pub text-run : (text : List ℕ) (s : State) → isNothing (readOf text .refusal) ≡ true → recipeRunOf (readOf text .recipe) s ≡ textRunOf text s
+pub text-run : (text : List ℕ) (s : State) → isNothing (readOf text .refused) ≡ true → recipeRunOf (readOf text .recipe) s ≡ textRunOf text s
 unfolding recipeRunOf textRunOf
 text-run text s e = good-passes (untouched s) (readOf text .recipe) _ (read-sound text e) ∙ rw e
 
-pub text-refused : (text : List ℕ) (s : State) → isNothing (readOf text .refusal) ≡ false → untouched s (readOf text .refusal) (readOf text .line) ≡ textRunOf text s
+pub text-refused : (text : List ℕ) (s : State) → isNothing (readOf text .refused) ≡ false → untouched s (readOf text .refused) ≡ textRunOf text s
 unfolding textRunOf
 text-refused text s e = rw e

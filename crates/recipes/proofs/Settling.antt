@@ -20,12 +20,12 @@ use Rattle.step.specs.declared.forms.Step.{Step}
 use Rattle.step.specs.Run.{arraySlots}
 use Rattle.recipes.specs.declared.types.Line.{Line}
 use Rattle.recipes.specs.declared.types.Recipe.{Recipe}
-use Rattle.recipes.specs.declared.types.Refusal.the-variants.{Nothing, NoSpace}
+use Rattle.recipes.specs.declared.types.Refusal.the-variants.{NoSpace}
 use Rattle.recipes.specs.declared.types.Translated.{Translated}
 use Rattle.recipes.specs.declared.types.Listing.{Listing}
-use Rattle.recipes.specs.Recipe.{linesMax, recipeLines, Accepted}
+use Rattle.recipes.specs.Recipe.{linesMax, atLine, noRefusal, recipeLines, Accepted}
 use Rattle.recipes.specs.Listing.{stepsMax, listingOf, stepsOf, over, listed, translateOf, translated, blanks}
-use Rattle.recipes.specs.Making.{told, refused, judgeOf, Layable, settledOf}
+use Rattle.recipes.specs.Making.{translation, noSteps, judgeOf, Layable, settledOf}
 use Rattle.recipes.proofs.Steps.{listing-steps, listing-prefix, steps-most}
 use Rattle.recipes.proofs.Accepting.{width-is, tests-agree}
 
@@ -41,8 +41,8 @@ slots-enough = omega arith
 
 pub ready : (r : Recipe) → length (r .lines) ≡ linesMax → Layable (r .width) (r .lines) (judgeOf r .count)
 ready r n =
-    tests-agree (λ (t _ : Translated). Layable (r .width) (r .lines) (t .count)) refused refused (λ k line e. none) r (told Nothing 0 (stepsOf (r .width) (recipeLines r)))
-    (told Nothing 0 (stepsOf (r .width) (recipeLines r))) (λ g. whole (width-is (r .width) (g .width)) (g .few) (g .lines))
+    tests-agree (λ (t _ : Translated). Layable (r .width) (r .lines) (t .count)) noSteps noSteps (λ k e. none) r (translation noRefusal (stepsOf (r .width) (recipeLines r)))
+    (translation noRefusal (stepsOf (r .width) (recipeLines r))) (λ g. whole (width-is (r .width) (g .width)) (g .few) (g .lines))
   where
     none : Layable (r .width) (r .lines) 0
     none = record { many = 0; within = omega arith; width = λ h. absurd (omega arith); named = λ h. absurd (omega arith); counted = omega arith; held = omega arith }
@@ -52,28 +52,28 @@ ready r n =
 
 -- the translation that stands where all tests are passed
 abbrev pub whole : (w : ℕ) (ls : List Line) (slots : List Step) → Listing
-whole w ls slots = cond (leb (stepsOf w ls) (length slots)) (listed Nothing 0 (stepsOf w ls) (over (listingOf w ls) slots)) (listed NoSpace 0 0 slots)
+whole w ls slots = cond (leb (stepsOf w ls) (length slots)) (listed noRefusal (stepsOf w ls) (over (listingOf w ls) slots)) (listed (atLine NoSpace 0) 0 slots)
 
 -- where there is room, and where there is none
-pub whole-fits : (w : ℕ) (ls : List Line) (slots : List Step) → stepsOf w ls ≤ length slots → whole w ls slots ≡ listed Nothing 0 (stepsOf w ls) (over (listingOf w ls) slots)
+pub whole-fits : (w : ℕ) (ls : List Line) (slots : List Step) → stepsOf w ls ≤ length slots → whole w ls slots ≡ listed noRefusal (stepsOf w ls) (over (listingOf w ls) slots)
 whole-fits w ls slots h = rw (le-leb (stepsOf w ls) (length slots) h)
 
-whole-short : (w : ℕ) (ls : List Line) (slots : List Step) → length slots < stepsOf w ls → whole w ls slots ≡ listed NoSpace 0 0 slots
+whole-short : (w : ℕ) (ls : List Line) (slots : List Step) → length slots < stepsOf w ls → whole w ls slots ≡ listed (atLine NoSpace 0) 0 slots
 whole-short w ls slots h = rw (lt-leb (stepsOf w ls) (length slots) h)
 
 pub blanks-fit : (r : Recipe) → r .width ≤ 4 → r .count ≤ linesMax → stepsOf (r .width) (recipeLines r) ≤ length blanks
 blanks-fit r w c = rw length-replicate (omega (arith, few-steps r w c, slots-enough))
 
 pub laid : (r : Recipe)
-    → listed (judgeOf r .refusal) (judgeOf r .line) (judgeOf r .count) (over (take (judgeOf r .count) (listingOf (r .width) (r .lines))) blanks) ≡ translateOf r blanks
+    → listed (judgeOf r .refused) (judgeOf r .count) (over (take (judgeOf r .count) (listingOf (r .width) (r .lines))) blanks) ≡ translateOf r blanks
 unfolding translateOf
 laid r =
-    tests-agree (λ (t : Translated) (l : Listing). listed (t .refusal) (t .line) (t .count) (over (take (t .count) (listingOf (r .width) (r .lines))) blanks) ≡ l)
-    refused (λ k line. listed k line 0 blanks) (λ k line e. refl) r (told Nothing 0 (stepsOf (r .width) (recipeLines r)))
+    tests-agree (λ (t : Translated) (l : Listing). listed (t .refused) (t .count) (over (take (t .count) (listingOf (r .width) (r .lines))) blanks) ≡ l)
+    noSteps (λ k. listed k 0 blanks) (λ k e. refl) r (translation noRefusal (stepsOf (r .width) (recipeLines r)))
     (whole (r .width) (recipeLines r) blanks) (λ g. there (width-is (r .width) (g .width)) (g .few))
   where
     there : (0 < r .width) × (r .width ≤ 4) → r .count ≤ linesMax
-        → listed Nothing 0 (stepsOf (r .width) (recipeLines r)) (over (take (stepsOf (r .width) (recipeLines r)) (listingOf (r .width) (r .lines))) blanks)
+        → listed noRefusal (stepsOf (r .width) (recipeLines r)) (over (take (stepsOf (r .width) (recipeLines r)) (listingOf (r .width) (r .lines))) blanks)
         ≡ whole (r .width) (recipeLines r) blanks
     there w c =
         rw (listing-prefix (r .width) (r .count) (r .lines)) (sym (whole-fits (r .width) (recipeLines r) blanks (blanks-fit r (w .1) c)))
@@ -87,11 +87,11 @@ copied made slots =
 pub translate-lent : (r : Recipe) (slots : List Step) → copied (translateOf r blanks) slots ≡ translateOf r slots
 unfolding translateOf
 translate-lent r slots =
-    tests-agree (λ (made l : Listing). copied made slots ≡ l) (λ k line. listed k line 0 blanks) (λ k line. listed k line 0 slots)
-    (λ k line e. rw (le-ltb (length slots) 0 (omega arith))) r (whole (r .width) (recipeLines r) blanks) (whole (r .width) (recipeLines r) slots)
+    tests-agree (λ (made l : Listing). copied made slots ≡ l) (λ k. listed k 0 blanks) (λ k. listed k 0 slots)
+    (λ k e. rw (le-ltb (length slots) 0 (omega arith))) r (whole (r .width) (recipeLines r) blanks) (whole (r .width) (recipeLines r) slots)
     (λ g. there (width-is (r .width) (g .width)) (g .few) (g .lines))
   where
-    room : Dec (stepsOf (r .width) (recipeLines r) ≤ length slots) → copied (listed Nothing 0 (stepsOf (r .width) (recipeLines r)) (over (listingOf (r .width) (recipeLines r)) blanks)) slots ≡ whole (r .width) (recipeLines r) slots
+    room : Dec (stepsOf (r .width) (recipeLines r) ≤ length slots) → copied (listed noRefusal (stepsOf (r .width) (recipeLines r)) (over (listingOf (r .width) (recipeLines r)) blanks)) slots ≡ whole (r .width) (recipeLines r) slots
     room (yes h) =
         rw (
           whole-fits (r .width) (recipeLines r) slots h,
@@ -109,7 +109,7 @@ translate-lent r slots =
 pub blanks-count : (r : Recipe) → translateOf r blanks .count ≤ stepsMax
 unfolding translateOf
 blanks-count r =
-    tests-agree (λ (l _ : Listing). l .count ≤ stepsMax) (λ k line. listed k line 0 blanks) (λ k line. listed k line 0 blanks) (λ k line e. omega arith) r
+    tests-agree (λ (l _ : Listing). l .count ≤ stepsMax) (λ k. listed k 0 blanks) (λ k. listed k 0 blanks) (λ k e. omega arith) r
     (whole (r .width) (recipeLines r) blanks) (whole (r .width) (recipeLines r) blanks) (λ g. there (width-is (r .width) (g .width)) (g .few))
   where
     there : (0 < r .width) × (r .width ≤ 4) → r .count ≤ linesMax → whole (r .width) (recipeLines r) blanks .count ≤ stepsMax
@@ -118,7 +118,7 @@ blanks-count r =
 pub blanks-hold : (r : Recipe) → translateOf r blanks .count ≤ length (translateOf r blanks .steps)
 unfolding translateOf
 blanks-hold r =
-    tests-agree (λ (l _ : Listing). l .count ≤ length (l .steps)) (λ k line. listed k line 0 blanks) (λ k line. listed k line 0 blanks) (λ k line e. omega arith) r
+    tests-agree (λ (l _ : Listing). l .count ≤ length (l .steps)) (λ k. listed k 0 blanks) (λ k. listed k 0 blanks) (λ k e. omega arith) r
     (whole (r .width) (recipeLines r) blanks) (whole (r .width) (recipeLines r) blanks) (λ g. there (width-is (r .width) (g .width)) (g .few))
   where
     there : (0 < r .width) × (r .width ≤ 4) → r .count ≤ linesMax → whole (r .width) (recipeLines r) blanks .count ≤ length (whole (r .width) (recipeLines r) blanks .steps)
@@ -129,13 +129,13 @@ blanks-hold r =
 pub settled-room : (made : Listing) (room : ℕ) → settledOf made room .count ≤ room
 settled-room made room = go (ltb room (made .count)) refl
   where
-    go : (t : Bool) → ltb room (made .count) ≡ t → cond t (refused NoSpace 0) (told (made .refusal) (made .line) (made .count)) .count ≤ room
+    go : (t : Bool) → ltb room (made .count) ≡ t → cond t (noSteps (atLine NoSpace 0)) (translation (made .refused) (made .count)) .count ≤ room
     go true h = omega arith
     go false h = omega (arith, ltb-false room (made .count) h)
 
 pub settled-count : (made : Listing) (room : ℕ) → settledOf made room .count ≤ made .count
 settled-count made room = go (ltb room (made .count))
   where
-    go : (t : Bool) → cond t (refused NoSpace 0) (told (made .refusal) (made .line) (made .count)) .count ≤ made .count
+    go : (t : Bool) → cond t (noSteps (atLine NoSpace 0)) (translation (made .refused) (made .count)) .count ≤ made .count
     go true = omega arith
     go false = omega arith

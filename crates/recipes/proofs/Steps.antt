@@ -10,18 +10,17 @@ use mathlib.Core.Path.{_≡_, refl, sym, ap, _∙_}
 use native.Mathlib.Omega.{arith}
 use lib.ListN.{length, take, getD, length-append}
 use lib.Seq.{take-append-add}
-use Rattle.step.specs.declared.forms.OneOp.the-variants.{Clr}
 use Rattle.step.specs.declared.forms.Step.{Step}
 use Rattle.recipes.specs.declared.types.Verb.{Verb}
 use Rattle.recipes.specs.declared.types.Line.{Line}
 use Rattle.recipes.specs.Recipe.{isCopy, target, unused}
-use Rattle.recipes.specs.Listing.{one, firstStep, otherStep, withClr, highestFirst, risingRest, fallingRest, rising, falling, lineSteps, listingOf, stepsAt, stepsOf}
+use Rattle.recipes.specs.Listing.{clrStep, firstStep, otherStep, withClr, highestFirst, risingRest, fallingRest, rising, falling, lineSteps, listingOf, stepsAt, stepsOf}
 
 -- the steps at one register
 pub there-length : (v : Verb) (q : ℕ) (k : Step) → length (withClr v q k) ≡ stepsAt v
 there-length v q k = go (isCopy v)
   where
-    go : (t : Bool) → length (cond t (one Clr q ∷ k ∷ []) (k ∷ [])) ≡ cond t 2 1
+    go : (t : Bool) → length (cond t (clrStep q ∷ k ∷ []) (k ∷ [])) ≡ cond t 2 1
     go true = refl
     go false = refl
 

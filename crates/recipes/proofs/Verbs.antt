@@ -17,7 +17,8 @@ use Rattle.step.proofs.Promises.{Left, Alu, Promises, register, put, withX, fre
 use Rattle.step.proofs.Leading.{executed}
 use Rattle.recipes.specs.declared.types.Verb.{Verb}
 use Rattle.recipes.specs.declared.types.Verb.the-variants.{Clear, Copy, Add, Sub, Neg, Not, Halve, Down, Up}
-use Rattle.recipes.specs.Listing.{two, one, highestFirst}
+use Rattle.recipes.specs.declared.lines.Act.the-variants.{Two}
+use Rattle.recipes.specs.Listing.{stepOf, clrStep, highestFirst}
 use Rattle.recipes.specs.Rule.{radix}
 use Rattle.recipes.proofs.Chain.{Word, Balance, Kept}
 use Rattle.recipes.proofs.Registers.{firstAt, otherAt}
@@ -100,7 +101,7 @@ module _ (m : Alu) (say : Promises m) where
   copied s d f h = omega (arith, copied-sum s d f h, ap digit (copied-x s d f h))
 
   copy-does : (p q : ℕ) (s : State) → (p ≡ q → ⊥) → q < length (s .d)
-      → executed m (one OneOp.Clr q ∷ two TwoOp.Add p q ∷ []) s ≡ put s q (wordOf m Copy (register s p) (register s q) (s .flags))
+      → executed m (clrStep q ∷ stepOf (Two TwoOp.Add) p q ∷ []) s ≡ put s q (wordOf m Copy (register s p) (register s q) (s .flags))
   copy-does p q s apart h =
       let z : Left = m .one OneOp.Clr (register s q) (s .flags) in
       ap₂ {C = State} (λ (a b : ℕ). put (put s q z) q (m .two TwoOp.Add a b (z .flags))) (getD-set-other (s .d) q p (z .result) 0 apart)

@@ -15,12 +15,11 @@ use Rattle.step.specs.Perform.{performOf}
 use Rattle.step.specs.Parts.{goesOn, runInParts, PartsGo, total}
 use Rattle.recipes.specs.declared.types.Line.{Line}
 use Rattle.recipes.specs.declared.types.Recipe.{Recipe}
-use Rattle.recipes.specs.declared.types.Refusal.{Refusal}
-use Rattle.recipes.specs.declared.types.Refusal.the-variants.{Nothing}
+use Rattle.recipes.specs.declared.types.Refused.{Refused}
 use Rattle.recipes.specs.declared.types.Codes.{Codes}
 use Rattle.recipes.specs.declared.types.Codes.the-variants.{Open, Known}
 use Rattle.recipes.specs.declared.types.RecipeRun.{RecipeRun}
-use Rattle.recipes.specs.Recipe.{isNothing, recipeLines, Accepted}
+use Rattle.recipes.specs.Recipe.{noRefusal, isNothing, recipeLines, Accepted}
 use Rattle.recipes.specs.Rule.{radix, numbersOf, registersOf, Account, saidBy, rulesOf}
 use Rattle.recipes.specs.Reader.{readOf}
 use Rattle.recipes.specs.Listing.{listingOf, stepsOf, stepsMax, clocksOf, tested, translateOf}
@@ -84,12 +83,12 @@ HaltedBehind =
 abbrev pub CalledOneByOne : Type 0
 CalledOneByOne =
     (r : Recipe) (slots : List Step) → let t = translateOf r slots in
-    isNothing (t .refusal) ≡ true → (s : State) → EightLongs (s .d) → (b : ℕ) (bs : List ℕ) → t .count ≤ total b bs
+    isNothing (t .refused) ≡ true → (s : State) → EightLongs (s .d) → (b : ℕ) (bs : List ℕ) → t .count ≤ total b bs
     → Finishes (r .width) (recipeLines r) (take (t .count) (t .steps)) s b bs
 
 -- and a text that is read is accepted by the translator, wherever it has slots for the longest
 abbrev pub FromText : Type 0
-FromText = (text : List ℕ) (slots : List Step) → isNothing (readOf text .refusal) ≡ true → stepsMax ≤ length slots → isNothing (translateOf (readOf text .recipe) slots .refusal) ≡ true
+FromText = (text : List ℕ) (slots : List Step) → isNothing (readOf text .refused) ≡ true → stepsMax ≤ length slots → isNothing (translateOf (readOf text .recipe) slots .refused) ≡ true
 
 -- ---- what `run_recipe` and `run_text` answer
 
@@ -98,8 +97,7 @@ abbrev pub ranByRule : (w : ℕ) → List Line → State → RecipeRun
 ranByRule w ls s =
     let r = rulesOf w ls (saidBy w s) in
     record {
-      refusal = Nothing;
-      line = 0;
+      refused = noRefusal;
       d = registersOf w (r .numbers);
       a = s .a;
       x = r .x;
@@ -109,9 +107,8 @@ ranByRule w ls s =
     }
 
 -- a refusal leaves the state and takes no step
-abbrev pub untouched : State → Refusal → (line : ℕ) → RecipeRun
-untouched s k line =
-    record { refusal = k; line = line; d = s .d; a = s .a; x = s .flags .x; codes = Known (s .flags); steps = 0; clocks = 0 }
+abbrev pub untouched : State → Refused → RecipeRun
+untouched s k = record { refused = k; d = s .d; a = s .a; x = s .flags .x; codes = Known (s .flags); steps = 0; clocks = 0 }
 
 -- a recipe: by the translator's tests, of which 9 is never met, since an array has slots for the longest
 unfoldable pub recipeRunOf : Recipe → State → RecipeRun
@@ -122,4 +119,4 @@ unfoldable pub textRunOf : List ℕ → State → RecipeRun
 textRunOf text s =
     let g = readOf text in
     let r = g .recipe in
-    cond (isNothing (g .refusal)) (ranByRule (r .width) (recipeLines r) s) (untouched s (g .refusal) (g .line))
+    cond (isNothing (g .refused)) (ranByRule (r .width) (recipeLines r) s) (untouched s (g .refused))

@@ -5,83 +5,58 @@ use mathlib.Core.List.{List, [], _∷_, _++_}
 use lib.Dec.{leb}
 use lib.ListN.{length, drop, replicate}
 use Rattle.alu.specs.declared.types.Size.the-variants.{Long}
-use Rattle.alu.specs.declared.shift_rotate.ShiftOp.{ShiftOp}
-use Rattle.alu.specs.declared.shift_rotate.ShiftOp.the-variants.{Asr, Lsl, Lsr, Roxl, Roxr}
 use Rattle.step.specs.declared.registers.State.{State}
-use Rattle.step.specs.declared.forms.TwoOp.{TwoOp}
-use Rattle.step.specs.declared.forms.TwoOp.the-variants as TwoOp
-use Rattle.step.specs.declared.forms.OneOp.{OneOp}
-use Rattle.step.specs.declared.forms.OneOp.the-variants as OneOp
+use Rattle.step.specs.declared.forms.OneOp.the-variants.{Clr}
 use Rattle.step.specs.declared.forms.Count.the-variants.{Small}
 use Rattle.step.specs.declared.forms.Form.{Form}
-use Rattle.step.specs.declared.forms.Form.the-variants.{Two, One, Shift}
+use Rattle.step.specs.declared.forms.Form.the-variants as Form
 use Rattle.step.specs.declared.forms.Step.{Step}
 use Rattle.step.specs.Perform.{performOf}
 use Rattle.step.specs.Run.{arraySlots}
 use Rattle.recipes.specs.declared.types.Verb.{Verb}
-use Rattle.recipes.specs.declared.types.Verb.the-variants.{Clear, Copy, Add, Sub, Neg, Not, Halve, Down, Up}
 use Rattle.recipes.specs.declared.types.Line.{Line}
 use Rattle.recipes.specs.declared.types.Recipe.{Recipe}
 use Rattle.recipes.specs.declared.types.Refusal.{Refusal}
-use Rattle.recipes.specs.declared.types.Refusal.the-variants.{Nothing, WidthLine, TooManyLines, NoSpace}
+use Rattle.recipes.specs.declared.types.Refusal.the-variants.{WidthLine, TooManyLines, NoSpace}
+use Rattle.recipes.specs.declared.types.Refused.{Refused}
 use Rattle.recipes.specs.declared.types.Translated.{Translated}
 use Rattle.recipes.specs.declared.types.Listing.{Listing}
-use Rattle.recipes.specs.declared.reader.LineRead.{LineRead}
-use Rattle.recipes.specs.declared.reader.LineRead.the-variants.{Read, Slip}
-use Rattle.recipes.specs.Recipe.{linesMax, isCopy, target, isWidth, recipeLines, lineChecked}
+use Rattle.recipes.specs.declared.lines.Act.{Act}
+use Rattle.recipes.specs.declared.lines.Act.the-variants.{One, Two, Shift}
+use Rattle.recipes.specs.declared.lines.LineRead.{LineRead}
+use Rattle.recipes.specs.declared.lines.LineRead.the-variants.{Read, Slip}
+use Rattle.recipes.specs.Recipe.{linesMax, atLine, noRefusal, wayOf, isCopy, target, isWidth, recipeLines, lineChecked}
 
 -- ---- the steps: all are long, from data register p to data register q; a shift is by #1
 
 abbrev pub long : Form → Step
 long form = record { size = Long; form = form }
 
-abbrev pub two : TwoOp → (p q : ℕ) → Step
-two op p q = long (Two op (record { 0 = p }) (record { 0 = q }))
+abbrev pub formOf : Act → (p q : ℕ) → Form
+formOf (One op) p q = Form.One op (record { 0 = q })
+formOf (Two op) p q = Form.Two op (record { 0 = p }) (record { 0 = q })
+formOf (Shift op) p q = Form.Shift op (Small 1) (record { 0 = q })
 
-abbrev pub one : OneOp → (q : ℕ) → Step
-one op q = long (One op (record { 0 = q }))
+abbrev pub stepOf : Act → (p q : ℕ) → Step
+stepOf act p q = long (formOf act p q)
 
-abbrev pub shift : ShiftOp → (q : ℕ) → Step
-shift op q = long (Shift op (Small 1) (record { 0 = q }))
+abbrev pub clrStep : (q : ℕ) → Step
+clrStep q = stepOf (One Clr) q q
 
 -- a verb's step at the first register that it takes, and at each other
 abbrev pub firstStep : Verb → (p q : ℕ) → Step
-firstStep Clear p q = one OneOp.Clr q
-firstStep Copy p q = two TwoOp.Add p q
-firstStep Add p q = two TwoOp.Add p q
-firstStep Sub p q = two TwoOp.Sub p q
-firstStep Neg p q = one OneOp.Neg q
-firstStep Not p q = one OneOp.Not q
-firstStep Halve p q = shift Asr q
-firstStep Down p q = shift Lsr q
-firstStep Up p q = shift Lsl q
+firstStep v p q = stepOf (wayOf v .first) p q
 
 abbrev pub otherStep : Verb → (p q : ℕ) → Step
-otherStep Clear p q = one OneOp.Clr q
-otherStep Copy p q = two TwoOp.Add p q
-otherStep Add p q = two TwoOp.Addx p q
-otherStep Sub p q = two TwoOp.Subx p q
-otherStep Neg p q = one OneOp.Negx q
-otherStep Not p q = one OneOp.Not q
-otherStep Halve p q = shift Roxr q
-otherStep Down p q = shift Roxr q
-otherStep Up p q = shift Roxl q
+otherStep v p q = stepOf (wayOf v .other) p q
 
 -- the steps at one register: a copy has a CLR before its ADD
 abbrev pub withClr : Verb → (q : ℕ) → Step → List Step
-withClr v q k = cond (isCopy v) (one OneOp.Clr q ∷ k ∷ []) (k ∷ [])
+withClr v q k = cond (isCopy v) (clrStep q ∷ k ∷ []) (k ∷ [])
 
 -- lowest register first, but halve and down highest first
 abbrev pub highestFirst : Verb → Bool
-highestFirst Clear = false
-highestFirst Copy = false
-highestFirst Add = false
-highestFirst Sub = false
-highestFirst Neg = false
-highestFirst Not = false
-highestFirst Halve = true
-highestFirst Down = true
-highestFirst Up = false
+highestFirst v = wayOf v .falls
 
 -- ---- a line: n registers from p and q on
 
@@ -142,12 +117,12 @@ unfoldable pub clocksOf : List Step → ℕ
 clocksOf [] = 0
 clocksOf (k ∷ ks) = figureOf k + clocksOf ks
 
--- ---- the translator's tests, in document 01's order: 4 (line 1); too many lines, 8 (line 0); 6 and 7 on each line. `refused k line` is what a
+-- ---- the translator's tests, in document 01's order: 4 (line 1); too many lines, 8 (line 0); 6 and 7 on each line. `refuse k` is what a
 -- refusal answers, and `go` what is answered when all are passed
 
-module _ {R : Type 0} (refused : Refusal → ℕ → R) where
+module _ {R : Type 0} (refuse : Refused → R) where
   abbrev pub unlessSlip : LineRead → (line : ℕ) → (go : R) → R
-  unlessSlip (Slip k) line go = refused k line
+  unlessSlip (Slip k) line go = refuse (atLine k line)
   unlessSlip (Read l) line go = go
 
   -- the lines in turn, in a recipe of n numbers; the first has this text line
@@ -158,8 +133,8 @@ module _ {R : Type 0} (refused : Refusal → ℕ → R) where
   abbrev pub tested : Recipe → (go : R) → R
   tested r go =
       cond (isWidth (r .width))
-      (cond (leb (r .count) linesMax) (linesPass (8 / r .width) 2 (recipeLines r) go) (refused TooManyLines 0))
-      (refused WidthLine 1)
+      (cond (leb (r .count) linesMax) (linesPass (8 / r .width) 2 (recipeLines r) go) (refuse (atLine TooManyLines 0)))
+      (refuse (atLine WidthLine 1))
 
 -- ---- the translation, into a row of slots
 
@@ -168,25 +143,25 @@ abbrev pub over : {A : Type 0} → (new old : List A) → List A
 over new old = new ++ drop (length new) old
 
 -- (a `Listing` here has a row of any length; that of the code has `arraySlots`)
-abbrev pub listed : Refusal → (line count : ℕ) → List Step → Listing
-listed refusal line count steps = record { refusal = refusal; line = line; count = count; steps = steps }
+abbrev pub listed : Refused → (count : ℕ) → List Step → Listing
+listed refused count steps = record { refused = refused; count = count; steps = steps }
 
 -- a refusal answers 0 steps and leaves the slots; 9 (line 0) where there are too few of them for the steps
 unfoldable pub translateOf : Recipe → (slots : List Step) → Listing
 translateOf r slots =
-    let refused : Refusal → ℕ → Listing = λ k line. listed k line 0 slots in
+    let refuse : Refused → Listing = λ k. listed k 0 slots in
     let w = r .width in
     let ls = recipeLines r in
-    tested refused r
-    (cond (leb (stepsOf w ls) (length slots)) (listed Nothing 0 (stepsOf w ls) (over (listingOf w ls) slots)) (refused NoSpace 0))
+    tested refuse r
+    (cond (leb (stepsOf w ls) (length slots)) (listed noRefusal (stepsOf w ls) (over (listingOf w ls) slots)) (refuse (atLine NoSpace 0)))
 
 -- what the translator says, and the slots that it was lent
 abbrev pub translated : Translated → (slots : List Step) → Listing
-translated t slots = listed (t .refusal) (t .line) (t .count) slots
+translated t slots = listed (t .refused) (t .count) slots
 
 -- the blank slots of an array. A blank slot holds a step on D255, which the machine refuses
 abbrev pub blank : Step
-blank = one OneOp.Clr 255
+blank = clrStep 255
 
 abbrev pub blanks : List Step
 blanks = replicate arraySlots blank

@@ -11,11 +11,10 @@ use Rattle.alu.specs.declared.types.Flags.{Flags}
 use Rattle.step.specs.declared.forms.Step.{Step}
 use Rattle.step.specs.Run.{arraySlots}
 use Rattle.recipes.specs.declared.types.Verb.{Verb}
-use Rattle.recipes.specs.declared.types.Verb.the-variants.{Clear, Copy, Add, Sub, Neg, Not, Halve, Down, Up}
 use Rattle.recipes.specs.declared.types.Line.{Line}
 use Rattle.recipes.specs.declared.types.Recipe.{Recipe}
-use Rattle.recipes.specs.declared.types.Refusal.{Refusal}
-use Rattle.recipes.specs.declared.types.Refusal.the-variants.{Nothing, NoSpace}
+use Rattle.recipes.specs.declared.types.Refusal.the-variants.{NoSpace}
+use Rattle.recipes.specs.declared.types.Refused.{Refused}
 use Rattle.recipes.specs.declared.types.Translated.{Translated}
 use Rattle.recipes.specs.declared.types.Listing.{Listing}
 use Rattle.recipes.specs.declared.types.Codes.{Codes}
@@ -23,7 +22,7 @@ use Rattle.recipes.specs.declared.types.Codes.the-variants.{Open, Known}
 use Rattle.recipes.specs.declared.printer.Operand.{Operand}
 use Rattle.recipes.specs.declared.printer.Operand.the-variants.{Numbered, Absent}
 use Rattle.recipes.specs.Text.{before, after, parts, ascii, decimalOf}
-use Rattle.recipes.specs.Recipe.{recipeLines, Names, Accepted}
+use Rattle.recipes.specs.Recipe.{atLine, noRefusal, wayOf, recipeLines, Names, Accepted}
 use Rattle.recipes.specs.Listing.{firstStep, otherStep, withClr, highestFirst, stepsAt, stepsOf, linesPass, tested}
 
 -- ---- the search for a byte
@@ -74,18 +73,18 @@ StepOfLine w l j = (w ≤ 4) × (Names (8 / w) l × (j < stepsAt (l .verb) * w))
 
 -- ---- what the translator says
 
-abbrev pub told : Refusal → (line count : ℕ) → Translated
-told refusal line count = record { refusal = refusal; line = line; count = count }
+abbrev pub translation : Refused → (count : ℕ) → Translated
+translation refused count = record { refused = refused; count = count }
 
-abbrev pub refused : Refusal → (line : ℕ) → Translated
-refused k line = told k line 0
+abbrev pub noSteps : Refused → Translated
+noSteps k = translation k 0
 
 abbrev pub judgeLines : (w : ℕ) → List Line → Translated
-judgeLines w ls = linesPass refused (8 / w) 2 ls (told Nothing 0 (stepsOf w ls))
+judgeLines w ls = linesPass noSteps (8 / w) 2 ls (translation noRefusal (stepsOf w ls))
 
 -- a recipe, if there is room for any listing
 abbrev pub judgeOf : Recipe → Translated
-judgeOf r = tested refused r (told Nothing 0 (stepsOf (r .width) (recipeLines r)))
+judgeOf r = tested noSteps r (translation noRefusal (stepsOf (r .width) (recipeLines r)))
 
 -- the first `count` steps of the lines can be laid out
 pub record Layable (w : ℕ) (lines : List Line) (count : ℕ) : Type 0 where
@@ -98,27 +97,15 @@ pub record Layable (w : ℕ) (lines : List Line) (count : ℕ) : Type 0 where
 
 -- a listing that was made in an array, for a row of so many slots
 abbrev pub settledOf : Listing → (room : ℕ) → Translated
-settledOf l room = cond (ltb room (l .count)) (refused NoSpace 0) (told (l .refusal) (l .line) (l .count))
+settledOf l room = cond (ltb room (l .count)) (noSteps (atLine NoSpace 0)) (translation (l .refused) (l .count))
 
 -- ---- what a run tells of the flags
 
--- after these verbs all five
-abbrev pub tellsAll : Verb → Bool
-tellsAll Clear = false
-tellsAll Copy = false
-tellsAll Add = true
-tellsAll Sub = true
-tellsAll Neg = true
-tellsAll Not = false
-tellsAll Halve = false
-tellsAll Down = false
-tellsAll Up = false
-
-abbrev pub toldAfter : Verb → Flags → Codes
-toldAfter v f = cond (tellsAll v) (Known f) Open
+abbrev pub codesBehind : Verb → Flags → Codes
+codesBehind v f = cond (wayOf v .tells) (Known f) Open
 
 -- the last line decides; with no line the flags are as they were
 abbrev pub codesAfter : List Line → Flags → Codes
 codesAfter [] f = Known f
-codesAfter (l ∷ []) f = toldAfter (l .verb) f
+codesAfter (l ∷ []) f = codesBehind (l .verb) f
 codesAfter (l ∷ m ∷ ls) f = codesAfter (m ∷ ls) f

@@ -14,7 +14,7 @@ use Rattle.step.specs.declared.forms.Form.the-variants.{Two, Address, Quick, On
 use Rattle.step.specs.declared.forms.Step.{Step}
 use Rattle.step.specs.Operations.{operationName, operationOf}
 use Rattle.recipes.specs.declared.types.Recipe.{Recipe}
-use Rattle.recipes.specs.declared.types.Refusal.{Refusal}
+use Rattle.recipes.specs.declared.types.Refused.{Refused}
 use Rattle.recipes.specs.declared.types.Listing.{Listing}
 use Rattle.recipes.specs.declared.types.Reading.{Reading}
 use Rattle.recipes.specs.Text.{ascii, decimalOf}
@@ -101,18 +101,18 @@ listingText w steps =
 -- ---- a refusal, and answers
 
 -- `refused`, its number and its line
-unfoldable pub refusalText : Refusal → (line : ℕ) → List ℕ
-refusalText k line = ascii "refused" ++ (fieldOf (numberOf k) ++ (fieldOf line ++ newline))
+unfoldable pub refusalText : Refused → List ℕ
+refusalText k = ascii "refused" ++ (fieldOf (numberOf (k .refusal)) ++ (fieldOf (k .line) ++ newline))
 
 abbrev pub listingPrinted : (w : ℕ) → Listing → List ℕ
-listingPrinted w l = cond (isNothing (l .refusal)) (listingText w (take (l .count) (l .steps))) (refusalText (l .refusal) (l .line))
+listingPrinted w l = cond (isNothing (l .refused)) (listingText w (take (l .count) (l .steps))) (refusalText (l .refused))
 
 -- a recipe's listing, made in an array, or its refusal
 unfoldable pub printedOf : Recipe → List ℕ
 printedOf r = listingPrinted (r .width) (translateOf r blanks)
 
 abbrev pub readingPrinted : Reading → List ℕ
-readingPrinted r = cond (isNothing (r .refusal)) (printedOf (r .recipe)) (refusalText (r .refusal) (r .line))
+readingPrinted r = cond (isNothing (r .refused)) (printedOf (r .recipe)) (refusalText (r .refused))
 
 -- what the program prints for a text
 unfoldable pub answerOf : List ℕ → List ℕ

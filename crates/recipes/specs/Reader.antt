@@ -9,21 +9,21 @@ use Rattle.recipes.specs.declared.types.Verb.the-variants.{Clear, Copy, 
 use Rattle.recipes.specs.declared.types.Line.{Line}
 use Rattle.recipes.specs.declared.types.Reading.{Reading}
 use Rattle.recipes.specs.declared.types.Refusal.{Refusal}
-use Rattle.recipes.specs.declared.types.Refusal.the-variants.{Nothing, WidthLine, Syntax, TooManyLines}
+use Rattle.recipes.specs.declared.types.Refusal.the-variants.{WidthLine, Syntax, TooManyLines}
+use Rattle.recipes.specs.declared.types.Refused.{Refused}
 use Rattle.recipes.specs.declared.reader.VerbRead.{VerbRead}
 use Rattle.recipes.specs.declared.reader.VerbRead.the-variants.{Known, Unknown}
 use Rattle.recipes.specs.declared.reader.Digit.{Digit}
 use Rattle.recipes.specs.declared.reader.Digit.the-variants.{Is, Bad}
-use Rattle.recipes.specs.declared.reader.LineRead.{LineRead}
-use Rattle.recipes.specs.declared.reader.LineRead.the-variants.{Read, Slip}
+use Rattle.recipes.specs.declared.lines.LineRead.{LineRead}
+use Rattle.recipes.specs.declared.lines.LineRead.the-variants.{Read, Slip}
 use Rattle.recipes.specs.Text.{ascii, sameBytes, before, after}
-use Rattle.recipes.specs.Recipe.{linesMax, takesTwo, isWidth, unused, lineChecked}
+use Rattle.recipes.specs.Recipe.{linesMax, takesTwo, isWidth, unused, lineChecked, atLine, noRefusal}
 
 -- ---- answers
 
-abbrev pub readingOf : Refusal → (line width count : ℕ) → List Line → Reading
-readingOf refusal line width count lines =
-    record { refusal = refusal; line = line; recipe = record { width = width; count = count; lines = lines } }
+abbrev pub readingOf : Refused → (width count : ℕ) → List Line → Reading
+readingOf refused width count lines = record { refused = refused; recipe = record { width = width; count = count; lines = lines } }
 
 -- lines, and `clear 0` in the slots past them
 abbrev pub padded : List Line → List Line
@@ -31,11 +31,11 @@ padded ls = ls ++ replicate (linesMax - length ls) unused
 
 -- a recipe of width w with the lines ls
 abbrev pub accepted : (w : ℕ) → List Line → Reading
-accepted w ls = readingOf Nothing 0 w (length ls) (padded ls)
+accepted w ls = readingOf noRefusal w (length ls) (padded ls)
 
 -- a refusal with its text line: the recipe has width 1 and no lines
 abbrev pub refusedAt : Refusal → (line : ℕ) → Reading
-refusedAt k line = readingOf k line 1 0 (padded [])
+refusedAt k line = readingOf (atLine k line) 1 0 (padded [])
 
 -- ---- fields
 

@@ -1,18 +1,25 @@
--- Recipes: document 01, "Recipes" and "Refusal numbers". What a line may hold. Assumes nothing.
+-- Recipes: document 01, "Recipes" and "Refusal numbers". The verbs, and what a line may hold. Assumes nothing.
 use Prim.Native.Nat.{ℕ, _/_, _<_}
 use mathlib.Core.Bool.{Bool, true, false, cond, _||_, _&&_}
 use mathlib.Core.List.{List, [], _∷_}
 use mathlib.Core.Path.{_≡_}
 use lib.Dec.{eqb, leb}
 use lib.ListN.{take}
+use Rattle.alu.specs.declared.shift_rotate.ShiftOp.the-variants.{Asr, Lsl, Lsr, Roxl, Roxr}
+use Rattle.step.specs.declared.forms.TwoOp.the-variants as TwoOp
+use Rattle.step.specs.declared.forms.OneOp.the-variants as OneOp
 use Rattle.recipes.specs.declared.types.Verb.{Verb}
 use Rattle.recipes.specs.declared.types.Verb.the-variants.{Clear, Copy, Add, Sub, Neg, Not, Halve, Down, Up}
 use Rattle.recipes.specs.declared.types.Line.{Line}
 use Rattle.recipes.specs.declared.types.Recipe.{Recipe}
 use Rattle.recipes.specs.declared.types.Refusal.{Refusal}
 use Rattle.recipes.specs.declared.types.Refusal.the-variants.{Nothing, WidthLine, Syntax, NoSuchNumber, OntoItself, TooManyLines, NoSpace}
-use Rattle.recipes.specs.declared.reader.LineRead.{LineRead}
-use Rattle.recipes.specs.declared.reader.LineRead.the-variants.{Read, Slip}
+use Rattle.recipes.specs.declared.types.Refused.{Refused}
+use Rattle.recipes.specs.declared.lines.Act.{Act}
+use Rattle.recipes.specs.declared.lines.Act.the-variants.{One, Two, Shift}
+use Rattle.recipes.specs.declared.lines.Way.{Way}
+use Rattle.recipes.specs.declared.lines.LineRead.{LineRead}
+use Rattle.recipes.specs.declared.lines.LineRead.the-variants.{Read, Slip}
 
 -- the most lines of a recipe
 abbrev pub linesMax : ℕ
@@ -28,31 +35,43 @@ numberOf OntoItself = 7
 numberOf TooManyLines = 8
 numberOf NoSpace = 9
 
-abbrev pub isNothing : Refusal → Bool
-isNothing k = eqb (numberOf k) 0
+-- a refusal with its text line; none has line 0
+abbrev pub atLine : Refusal → (line : ℕ) → Refused
+atLine k line = record { refusal = k; line = line }
 
--- whether a verb takes two numbers
+abbrev pub noRefusal : Refused
+noRefusal = atLine Nothing 0
+
+abbrev pub isNothing : Refused → Bool
+isNothing k = eqb (numberOf (k .refusal)) 0
+
+-- ---- verbs: a row for each
+
+abbrev pub way : («takes_two» clears : Bool) → (first other : Act) → (falls tells : Bool) → Way
+way two clears first other falls tells =
+    record { «takes_two» = two; clears = clears; first = first; other = other; falls = falls; tells = tells }
+
+-- whether a verb takes two numbers; whether a CLR stands before each of its steps; its step at the first register that it takes, and at each other;
+-- whether it takes the highest register first; whether all five flags behind it are those of the whole number
+abbrev pub wayOf : Verb → Way
+wayOf Clear = way false false (One OneOp.Clr) (One OneOp.Clr) false false
+wayOf Copy = way true true (Two TwoOp.Add) (Two TwoOp.Add) false false
+wayOf Add = way true false (Two TwoOp.Add) (Two TwoOp.Addx) false true
+wayOf Sub = way true false (Two TwoOp.Sub) (Two TwoOp.Subx) false true
+wayOf Neg = way false false (One OneOp.Neg) (One OneOp.Negx) false true
+wayOf Not = way false false (One OneOp.Not) (One OneOp.Not) false false
+wayOf Halve = way false false (Shift Asr) (Shift Roxr) true false
+wayOf Down = way false false (Shift Lsr) (Shift Roxr) true false
+wayOf Up = way false false (Shift Lsl) (Shift Roxl) false false
+
 abbrev pub takesTwo : Verb → Bool
-takesTwo Clear = false
-takesTwo Copy = true
-takesTwo Add = true
-takesTwo Sub = true
-takesTwo Neg = false
-takesTwo Not = false
-takesTwo Halve = false
-takesTwo Down = false
-takesTwo Up = false
+takesTwo v = wayOf v .«takes_two»
 
+-- copy alone has a CLR
 abbrev pub isCopy : Verb → Bool
-isCopy Clear = false
-isCopy Copy = true
-isCopy Add = false
-isCopy Sub = false
-isCopy Neg = false
-isCopy Not = false
-isCopy Halve = false
-isCopy Down = false
-isCopy Up = false
+isCopy v = wayOf v .clears
+
+-- ---- lines
 
 -- the number that a line changes
 abbrev pub target : Line → ℕ

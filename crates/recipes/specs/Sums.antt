@@ -34,7 +34,7 @@ ranFrom text s = let t = translateOf (readOf text .recipe) blanks in runOf perfo
 unfoldable pub holdsAt : (text before : List ℕ) → (d2 d3 : ℕ) → (x : Said) → Flags → Bool
 holdsAt text before d2 d3 x f =
     let after = ranFrom text (record { d = before ++ replicate 4 0; a = replicate 8 0; flags = f }) .state in
-    isNothing (readOf text .refusal) && eqb (getD (after .d) 2 0) d2 && eqb (getD (after .d) 3 0) d3 && meets x (f .x) (after .flags .x)
+    isNothing (readOf text .refused) && eqb (getD (after .d) 2 0) d2 && eqb (getD (after .d) 3 0) d3 && meets x (f .x) (after .flags .x)
 
 -- whatever the flags before
 unfoldable pub holds : Sum → Bool

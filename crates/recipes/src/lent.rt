@@ -2,12 +2,13 @@
 ghost use mathlib.Core.Path.{_≡_};
 ghost use Rattle.recipes.specs.Listing.{translated, translateOf};
 ghost use Rattle.recipes.specs.Making.{settledOf};
-use super::translator::refused;
 use super::translator::translate_array;
+use super::translator::translation;
 use super::types::Listing;
 use super::types::Recipe;
 use super::types::Refusal;
 use super::types::Translated;
+use super::types::at_line;
 use step::forms::Step;
 
 // Translates a recipe into a listing that is lent. It is written only when the whole recipe is accepted and there is
@@ -30,13 +31,9 @@ pub fn translate(recipe: Recipe, listing: &mut [Step]) -> Translated
 fn settle(made: Listing, len: usize) -> Translated
     ensures { λ r. ⌜ r ≡ settledOf made len ⌝ }
 {
-    let refusal = made.refusal;
+    let refused = made.refused;
     if len < made.count {
-        return refused(Refusal::NoSpace, 0);
+        return translation(at_line(Refusal::NoSpace, 0), 0);
     }
-    Translated {
-        refusal,
-        line: made.line,
-        count: made.count,
-    }
+    translation(refused, made.count)
 }

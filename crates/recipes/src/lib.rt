@@ -4,6 +4,7 @@
 // Every public function takes every input: none has a `requires`. Each has one `ensures`, an equation that gives its
 // whole answer and all that is lent to it, by a definition of specs/. Nothing is assumed.
 pub mod lent;
+pub mod lines;
 pub mod printer;
 pub mod reader;
 pub mod runner;

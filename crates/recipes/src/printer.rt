@@ -1,17 +1,14 @@
-// Printing a listing or a refusal into a lent slice, and the program's whole answer to a text. A printer answers how
-// many bytes it wrote, a `put_..` the next place; what has no room is left off.
+// Printing a step, a listing or a refusal into a lent slice. A printer answers how many bytes it wrote, a `put_..` the next
+// place; what has no room is left off.
 ghost use mathlib.Core.Path.{_≡_};
-ghost use Prim.Native.Nat.{_<_, _^_};
 ghost use mathlib.Core.Bool.{cond};
 ghost use mathlib.Core.List.{_∷_, _++_};
 ghost use lib.Dec.{ltb};
 ghost use lib.ListN.{take};
 ghost use Rattle.recipes.specs.Text.{before, written, writing};
 ghost use Rattle.recipes.specs.Making.{Wrote, operandText};
-ghost use Rattle.recipes.specs.Listing.{atRest, figureOf, clocksOf};
 ghost use Rattle.recipes.specs.Printer.{operationText, sizeText, registerText, countText, sourceText, destinationText, stepText, stepsText, fieldOf, newline};
-ghost use Rattle.recipes.specs.Printer.{listingText, refusalText, printedOf, answerOf};
-use super::reader::read;
+ghost use Rattle.recipes.specs.Printer.{listingText, refusalText};
 use super::text::BLANK;
 use super::text::NEWLINE;
 use super::text::TAB;
@@ -20,21 +17,16 @@ use super::text::put_byte;
 use super::text::put_bytes;
 use super::text::put_decimal;
 use super::text::put_number;
-use super::translator::translate_array;
-use super::types::Recipe;
-use super::types::Refusal;
-use super::types::is_nothing;
+use super::translator::clocks;
+use super::types::Refused;
 use super::types::number;
-use alu::types::Flags;
 use alu::types::Size;
 use step::forms::Count;
 use step::forms::Form;
 use step::forms::Register;
 use step::forms::Step;
 use step::forms::operation_of;
-use step::registers::State;
 use step::runs::SLOTS;
-use step::steps::perform;
 
 // The names of the operations by number, each filled up with blanks to four bytes (as the size letters below).
 const NAMES: [u8; 120] = *b"\
@@ -162,49 +154,6 @@ fn put_steps(out: &mut [u8], at: usize, steps: [Step; SLOTS], count: usize) -> u
     next
 }
 
-// All registers 0, all flags clear.
-fn at_rest() -> State
-    ensures { λ r. ⌜ r ≡ atRest ⌝ }
-{
-    let flags = Flags {
-        x: false,
-        n: false,
-        z: false,
-        v: false,
-        c: false,
-    };
-    State {
-        d: [0; 8],
-        a: [0; 8],
-        flags,
-    }
-}
-
-// The clock figure of a step, asked of the machine. A step of a recipe has the same figure whatever the registers hold.
-fn figure(step: Step) -> u64
-    ensures { λ r. ⌜ (r ≡ figureOf step) × (r < 2 ^ 32) ⌝ }
-{
-    let state = at_rest();
-    let performed = perform(state, step);
-    performed.clocks as u64
-}
-
-fn clocks(steps: [Step; SLOTS], count: usize) -> u64
-    ensures { λ r. ⌜ r ≡ clocksOf (take count steps) ⌝ }
-{
-    let mut sum: u64 = 0;
-    let mut k: usize = 0;
-    while k < SLOTS {
-        if count <= k {
-            return sum;
-        }
-        let step = steps[k];
-        sum += figure(step);
-        k += 1;
-    }
-    sum
-}
-
 fn lesser(a: usize, b: usize) -> usize
     ensures { λ r. ⌜ r ≡ cond (ltb a b) a b ⌝ }
 {
@@ -221,6 +170,13 @@ fn put_head(out: &mut [u8], word: &[u8], a: u64, b: u64) -> usize
     put_byte(out, next, NEWLINE)
 }
 
+// Prints a step as a line of a listing, at a place.
+pub fn print_step(place: u64, step: Step, out: &mut [u8]) -> usize
+    ensures { λ r. ⌜ written (now (out .exit)) r ≡ writing (now (out .entry)) (stepText place step) ⌝ }
+{
+    put_step(out, 0, place, step)
+}
+
 // Prints the first `count` steps of a listing; a count above `SLOTS` means all of them.
 pub fn print(width: u8, steps: [Step; SLOTS], count: usize, out: &mut [u8]) -> usize
     ensures { λ r. ⌜ written (now (out .exit)) r ≡ writing (now (out .entry)) (listingText width (take count steps)) ⌝ }
@@ -235,38 +191,10 @@ pub fn print(width: u8, steps: [Step; SLOTS], count: usize, out: &mut [u8]) -> u
 }
 
 // Prints a refusal: `refused`, its number and its line.
-pub fn print_refusal(refusal: Refusal, line: usize, out: &mut [u8]) -> usize
-    ensures { λ r. ⌜ written (now (out .exit)) r ≡ writing (now (out .entry)) (refusalText refusal line) ⌝ }
+pub fn print_refusal(refused: Refused, out: &mut [u8]) -> usize
+    ensures { λ r. ⌜ written (now (out .exit)) r ≡ writing (now (out .entry)) (refusalText refused) ⌝ }
 {
+    let refusal = refused.refusal;
     let n = number(refusal);
-    put_head(out, b"refused", n as u64, line as u64)
-}
-
-// Prints a recipe's listing, or why it has none.
-pub fn print_recipe(recipe: Recipe, out: &mut [u8]) -> usize
-    ensures { λ r. ⌜ written (now (out .exit)) r ≡ writing (now (out .entry)) (printedOf recipe) ⌝ }
-{
-    let width = recipe.width;
-    let made = translate_array(recipe);
-    let refusal = made.refusal;
-    let steps = made.steps;
-    if is_nothing(refusal) {
-        print(width, steps, made.count, out)
-    } else {
-        print_refusal(refusal, made.line, out)
-    }
-}
-
-// What the program `recipe` prints for a text.
-pub fn answer(text: &[u8], out: &mut [u8]) -> usize
-    ensures { λ r. ⌜ written (now (out .exit)) r ≡ writing (now (out .entry)) (answerOf (now (text .entry))) ⌝ }
-{
-    let reading = read(text);
-    let refusal = reading.refusal;
-    let recipe = reading.recipe;
-    if is_nothing(refusal) {
-        print_recipe(recipe, out)
-    } else {
-        print_refusal(refusal, reading.line, out)
-    }
+    put_head(out, b"refused", n as u64, refused.line as u64)
 }

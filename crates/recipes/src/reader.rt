@@ -6,8 +6,12 @@ ghost use mathlib.Core.List.{[]};
 ghost use lib.ListN.{replicate};
 ghost use Rattle.recipes.specs.declared.reader.VerbRead.the-variants.{Known};
 ghost use Rattle.recipes.specs.Text.{before, after, parts, sameBytes};
-ghost use Rattle.recipes.specs.Recipe.{linesMax, unused, lineChecked};
+ghost use Rattle.recipes.specs.Recipe.{linesMax, unused};
 ghost use Rattle.recipes.specs.Reader.{verbOf, digitOf, onlyDigit, oneField, twoFields, fieldsOf, lineOf, readingOf, refusedAt, linesOf, widthDigit, widthLine, readOf};
+use super::lines::LineRead;
+use super::lines::check_line;
+use super::lines::is_width;
+use super::lines::takes_two;
 use super::text::NEWLINE;
 use super::text::TAB;
 use super::text::first;
@@ -17,11 +21,10 @@ use super::types::Line;
 use super::types::Reading;
 use super::types::Recipe;
 use super::types::Refusal;
+use super::types::Refused;
 use super::types::Verb;
-use super::types::is_copy;
-use super::types::is_width;
-use super::types::takes_two;
-use super::types::target;
+use super::types::at_line;
+use super::types::no_refusal;
 
 // What a word in the verb's place is.
 pub(crate) enum VerbRead {
@@ -33,12 +36,6 @@ pub(crate) enum VerbRead {
 pub(crate) enum Digit {
     Is(u8),
     Bad,
-}
-
-// What a text line is read as: a recipe line, or why it is none.
-pub(crate) enum LineRead {
-    Read(Line),
-    Slip(Refusal),
 }
 
 // `verb` where the word is its name, and otherwise what was found among the other verbs.
@@ -144,22 +141,6 @@ fn read_fields(row: &[u8]) -> LineRead
     }
 }
 
-// A line as it may stand in a recipe of so many numbers, or why it may not. The translator calls it too.
-pub(crate) fn check_line(numbers: u8, line: Line) -> LineRead
-    ensures { λ r. ⌜ r ≡ lineChecked numbers line ⌝ }
-{
-    let verb = line.verb;
-    let copies = is_copy(verb);
-    let goal = target(line);
-    if (numbers <= line.a) | (numbers <= goal) {
-        return LineRead::Slip(Refusal::NoSuchNumber);
-    }
-    if copies & (line.a == goal) {
-        return LineRead::Slip(Refusal::OntoItself);
-    }
-    LineRead::Read(line)
-}
-
 // A text line as a line of a recipe of so many numbers.
 fn read_line(numbers: u8, row: &[u8]) -> LineRead
     ensures { λ r. ⌜ r ≡ lineOf numbers (now (row .entry)) ⌝ }
@@ -206,33 +187,24 @@ fn no_lines() -> [Line; LINES_MAX]
     [unused; LINES_MAX]
 }
 
-fn reading(
-    refusal: Refusal,
-    line: usize,
-    width: u8,
-    count: usize,
-    lines: [Line; LINES_MAX],
-) -> Reading
-    ensures { λ r. ⌜ r ≡ readingOf refusal line width count lines ⌝ }
+fn reading(refused: Refused, width: u8, count: usize, lines: [Line; LINES_MAX]) -> Reading
+    ensures { λ r. ⌜ r ≡ readingOf refused width count lines ⌝ }
 {
     let recipe = Recipe {
         width,
         count,
         lines,
     };
-    Reading {
-        refusal,
-        line,
-        recipe,
-    }
+    Reading { refused, recipe }
 }
 
 // Every refusal of the reader is answered here.
-fn refused(refusal: Refusal, line: usize) -> Reading
+fn refused_at(refusal: Refusal, line: usize) -> Reading
     ensures { λ r. ⌜ r ≡ refusedAt refusal line ⌝ }
 {
+    let refused = at_line(refusal, line);
     let lines = no_lines();
-    reading(refusal, line, 1, 0, lines)
+    reading(refused, 1, 0, lines)
 }
 
 // The lines after the width line. Line `count` of a recipe, from 0, is text line `count` + 2.
@@ -246,15 +218,15 @@ fn read_lines(width: u8, text: &[u8]) -> Reading
     let mut left = text;
     while 0 < left.len() {
         if count == LINES_MAX {
-            return refused(Refusal::TooManyLines, count + 2);
+            return refused_at(Refusal::TooManyLines, count + 2);
         }
         let end = first(left, NEWLINE);
         if left.len() <= end {
-            return refused(Refusal::Syntax, count + 2);
+            return refused_at(Refusal::Syntax, count + 2);
         }
         match read_line(numbers, &left[..end]) {
             LineRead::Slip(refusal) => {
-                return refused(refusal, count + 2);
+                return refused_at(refusal, count + 2);
             }
             LineRead::Read(line) => {
                 lines[count] = line;
@@ -263,7 +235,7 @@ fn read_lines(width: u8, text: &[u8]) -> Reading
         count += 1;
         left = &left[end + 1..];
     }
-    reading(Refusal::Nothing, 0, width, count, lines)
+    reading(no_refusal(), width, count, lines)
 }
 
 // Reads a recipe text: the recipe, or the first refusal with its text line.
@@ -272,11 +244,11 @@ pub fn read(text: &[u8]) -> Reading
 {
     let end = first(text, NEWLINE);
     if text.len() <= end {
-        return refused(Refusal::WidthLine, 1);
+        return refused_at(Refusal::WidthLine, 1);
     }
     let width = read_width(&text[..end]);
     if width == 0 {
-        return refused(Refusal::WidthLine, 1);
+        return refused_at(Refusal::WidthLine, 1);
     }
     read_lines(width, &text[end + 1..])
 }

@@ -1,10 +1,16 @@
-// Runs a recipe on a register set: what document 01's table of lines makes of its numbers.
+// The whole way, from a text or a recipe to what is printed of it, and to the registers that it leaves: what document 01's
+// table of lines makes of its numbers. In a contract `untouched` is the definition of specs/.
 ghost use mathlib.Core.Path.{_≡_};
 ghost use Prim.Native.Nat.{_≤_};
 ghost use lib.ListN.{take};
 ghost use Rattle.recipes.specs.Recipe.{linesMax};
 ghost use Rattle.recipes.specs.Demand.{untouched, recipeRunOf, textRunOf};
-ghost use Rattle.recipes.specs.Making.{tellsAll, codesAfter};
+ghost use Rattle.recipes.specs.Making.{codesAfter};
+ghost use Rattle.recipes.specs.Printer.{printedOf, answerOf};
+ghost use Rattle.recipes.specs.Text.{written, writing};
+use super::lines::way_of;
+use super::printer::print;
+use super::printer::print_refusal;
 use super::reader::read;
 use super::translator::translate_array;
 use super::types::Codes;
@@ -12,30 +18,12 @@ use super::types::LINES_MAX;
 use super::types::Line;
 use super::types::Recipe;
 use super::types::RecipeRun;
-use super::types::Refusal;
+use super::types::Refused;
 use super::types::STEPS_MAX;
-use super::types::Verb;
 use super::types::is_nothing;
 use alu::types::Flags;
 use step::registers::State;
 use step::runs::run_array;
-
-// After these all five flags are told.
-fn tells_all(verb: Verb) -> bool
-    ensures { λ r. ⌜ r ≡ tellsAll verb ⌝ }
-{
-    match verb {
-        Verb::Clear => false,
-        Verb::Copy => false,
-        Verb::Add => true,
-        Verb::Sub => true,
-        Verb::Neg => true,
-        Verb::Not => false,
-        Verb::Halve => false,
-        Verb::Down => false,
-        Verb::Up => false,
-    }
-}
 
 // What is told of the flags behind the last line; with no line they are as they were.
 fn codes_after(lines: [Line; LINES_MAX], count: usize, flags: Flags) -> Codes
@@ -47,7 +35,7 @@ fn codes_after(lines: [Line; LINES_MAX], count: usize, flags: Flags) -> Codes
     }
     let last = lines[count - 1];
     let verb = last.verb;
-    if tells_all(verb) {
+    if way_of(verb).tells {
         Codes::Known(flags)
     } else {
         Codes::Open
@@ -55,15 +43,14 @@ fn codes_after(lines: [Line; LINES_MAX], count: usize, flags: Flags) -> Codes
 }
 
 // A refusal leaves the state and takes no step.
-fn refused(refusal: Refusal, line: usize, state: State) -> RecipeRun
-    ensures { λ r. ⌜ r ≡ untouched state refusal line ⌝ }
+fn untouched(state: State, refused: Refused) -> RecipeRun
+    ensures { λ r. ⌜ r ≡ untouched state refused ⌝ }
 {
     let d = state.d;
     let a = state.a;
     let flags = state.flags;
     RecipeRun {
-        refusal,
-        line,
+        refused,
         d,
         a,
         x: flags.x,
@@ -79,9 +66,9 @@ pub fn run_recipe(recipe: Recipe, state: State) -> RecipeRun
 {
     let lines = recipe.lines;
     let made = translate_array(recipe);
-    let refusal = made.refusal;
-    if !is_nothing(refusal) {
-        return refused(refusal, made.line, state);
+    let refused = made.refused;
+    if !is_nothing(refused) {
+        return untouched(state, refused);
     }
     let steps = made.steps;
     let ran = run_array(steps, made.count, state, 0, STEPS_MAX);
@@ -91,8 +78,7 @@ pub fn run_recipe(recipe: Recipe, state: State) -> RecipeRun
     let flags = after.flags;
     let codes = codes_after(lines, recipe.count, flags);
     RecipeRun {
-        refusal,
-        line: made.line,
+        refused,
         d,
         a,
         x: flags.x,
@@ -107,11 +93,40 @@ pub fn run_text(text: &[u8], state: State) -> RecipeRun
     ensures { λ r. ⌜ r ≡ textRunOf (now (text .entry)) state ⌝ }
 {
     let reading = read(text);
-    let refusal = reading.refusal;
+    let refused = reading.refused;
     let recipe = reading.recipe;
-    if is_nothing(refusal) {
+    if is_nothing(refused) {
         run_recipe(recipe, state)
     } else {
-        refused(refusal, reading.line, state)
+        untouched(state, refused)
+    }
+}
+
+// Prints a recipe's listing, or why it has none.
+pub fn print_recipe(recipe: Recipe, out: &mut [u8]) -> usize
+    ensures { λ r. ⌜ written (now (out .exit)) r ≡ writing (now (out .entry)) (printedOf recipe) ⌝ }
+{
+    let width = recipe.width;
+    let made = translate_array(recipe);
+    let refused = made.refused;
+    let steps = made.steps;
+    if is_nothing(refused) {
+        print(width, steps, made.count, out)
+    } else {
+        print_refusal(refused, out)
+    }
+}
+
+// What the program `recipe` prints for a text.
+pub fn answer(text: &[u8], out: &mut [u8]) -> usize
+    ensures { λ r. ⌜ written (now (out .exit)) r ≡ writing (now (out .entry)) (answerOf (now (text .entry))) ⌝ }
+{
+    let reading = read(text);
+    let refused = reading.refused;
+    let recipe = reading.recipe;
+    if is_nothing(refused) {
+        print_recipe(recipe, out)
+    } else {
+        print_refusal(refused, out)
     }
 }

@@ -1,102 +1,73 @@
-// From a recipe to its listing. All steps are long; a number's registers go lowest first, those of halve and down
-// highest first. In a contract `one`, `two`, `shift`, `blank` and `refused` are the definitions of specs/ that the functions
-// of that name are held to.
+// From a recipe to its listing, and what the listing's steps cost. A number's registers go lowest first, those of halve and
+// down highest first. In a contract `long`, `blank` and `translation` are the definitions of specs/ that the functions of that
+// name are held to.
 ghost use mathlib.Core.Path.{_≡_};
-ghost use Prim.Native.Nat.{_/_, _%_, _*_, _+_, _-_, _<_, _≤_};
+ghost use Prim.Native.Nat.{_/_, _%_, _*_, _+_, _-_, _<_, _≤_, _^_};
 ghost use lib.ListN.{getD, take};
 ghost use Rattle.recipes.specs.Recipe.{linesMax};
-ghost use Rattle.recipes.specs.Listing.{one, two, shift, firstStep, otherStep, blank, blanks, stepsAt, highestFirst, lineSteps, listingOf, over, translateOf};
-ghost use Rattle.recipes.specs.Making.{refused, registerSteps, offsetOf, judgeOf, judgeLines, Layable, StepOfLine};
-use super::reader::LineRead;
-use super::reader::check_line;
+ghost use Rattle.recipes.specs.Listing.{long, formOf, stepOf, blank, blanks, stepsAt, lineSteps, listingOf, over, translateOf, atRest, figureOf, clocksOf};
+ghost use Rattle.recipes.specs.Making.{translation, registerSteps, offsetOf, judgeOf, judgeLines, Layable, StepOfLine};
+use super::lines::Act;
+use super::lines::LineRead;
+use super::lines::check_line;
+use super::lines::is_copy;
+use super::lines::is_width;
+use super::lines::target;
+use super::lines::way_of;
 use super::types::LINES_MAX;
 use super::types::Line;
 use super::types::Listing;
 use super::types::Recipe;
 use super::types::Refusal;
+use super::types::Refused;
 use super::types::Translated;
 use super::types::Verb;
-use super::types::is_copy;
-use super::types::is_width;
-use super::types::target;
-use alu::shift_rotate::ShiftOp;
+use super::types::at_line;
+use super::types::no_refusal;
+use alu::types::Flags;
 use alu::types::Size;
 use step::forms::Count;
 use step::forms::Form;
 use step::forms::OneOp;
 use step::forms::Step;
-use step::forms::TwoOp;
 use step::registers::D;
+use step::registers::State;
 use step::runs::SLOTS;
+use step::steps::perform;
 
-fn one(op: OneOp, q: u8) -> Step
-    ensures { λ r. ⌜ r ≡ one op q ⌝ }
+// Every step of a listing is made here.
+fn long(form: Form) -> Step
+    ensures { λ r. ⌜ r ≡ long form ⌝ }
 {
     Step {
         size: Size::Long,
-        form: Form::One(op, D(q)),
+        form,
     }
 }
 
-fn two(op: TwoOp, p: u8, q: u8) -> Step
-    ensures { λ r. ⌜ r ≡ two op p q ⌝ }
+// From data register p to data register q.
+fn form_of(act: Act, p: u8, q: u8) -> Form
+    ensures { λ r. ⌜ r ≡ formOf act p q ⌝ }
 {
-    Step {
-        size: Size::Long,
-        form: Form::Two(op, D(p), D(q)),
+    match act {
+        Act::One(op) => Form::One(op, D(q)),
+        Act::Two(op) => Form::Two(op, D(p), D(q)),
+        Act::Shift(op) => Form::Shift(op, Count::Small(1), D(q)),
     }
 }
 
-// By #1.
-fn shift(op: ShiftOp, q: u8) -> Step
-    ensures { λ r. ⌜ r ≡ shift op q ⌝ }
+fn step_of(act: Act, p: u8, q: u8) -> Step
+    ensures { λ r. ⌜ r ≡ stepOf act p q ⌝ }
 {
-    Step {
-        size: Size::Long,
-        form: Form::Shift(op, Count::Small(1), D(q)),
-    }
+    let form = form_of(act, p, q);
+    long(form)
 }
 
 // A slot that holds no step of a listing. There is no D255, so that a run that strays into it is refused.
 fn blank() -> Step
     ensures { λ r. ⌜ r ≡ blank ⌝ }
 {
-    one(OneOp::Clr, 255)
-}
-
-// The step of a verb at the first register that it takes, of halve and down the highest. A copy's is its ADD: the CLR
-// before it stands in `register_step`.
-fn first_step(verb: Verb, p: u8, q: u8) -> Step
-    ensures { λ r. ⌜ r ≡ firstStep verb p q ⌝ }
-{
-    match verb {
-        Verb::Clear => one(OneOp::Clr, q),
-        Verb::Copy => two(TwoOp::Add, p, q),
-        Verb::Add => two(TwoOp::Add, p, q),
-        Verb::Sub => two(TwoOp::Sub, p, q),
-        Verb::Neg => one(OneOp::Neg, q),
-        Verb::Not => one(OneOp::Not, q),
-        Verb::Halve => shift(ShiftOp::Asr, q),
-        Verb::Down => shift(ShiftOp::Lsr, q),
-        Verb::Up => shift(ShiftOp::Lsl, q),
-    }
-}
-
-// And at each other register: all but clear, copy and not take in the X that the register before left.
-fn other_step(verb: Verb, p: u8, q: u8) -> Step
-    ensures { λ r. ⌜ r ≡ otherStep verb p q ⌝ }
-{
-    match verb {
-        Verb::Clear => one(OneOp::Clr, q),
-        Verb::Copy => two(TwoOp::Add, p, q),
-        Verb::Add => two(TwoOp::Addx, p, q),
-        Verb::Sub => two(TwoOp::Subx, p, q),
-        Verb::Neg => one(OneOp::Negx, q),
-        Verb::Not => one(OneOp::Not, q),
-        Verb::Halve => shift(ShiftOp::Roxr, q),
-        Verb::Down => shift(ShiftOp::Roxr, q),
-        Verb::Up => shift(ShiftOp::Roxl, q),
-    }
+    step_of(Act::One(OneOp::Clr), 255, 255)
 }
 
 // Step `part` of those at one register. A copy has two, its CLR and its ADD.
@@ -104,30 +75,16 @@ fn register_step(verb: Verb, first: bool, part: u8, p: u8, q: u8) -> Step
     requires { ⌜ part < stepsAt verb ⌝ }
     ensures { λ r. ⌜ r ≡ getD (registerSteps first verb p q) part blank ⌝ }
 {
-    let copies = is_copy(verb);
-    if copies & (part == 0) {
-        return one(OneOp::Clr, q);
+    let way = way_of(verb);
+    let at_first = way.first;
+    let at_other = way.other;
+    if way.clears & (part == 0) {
+        return step_of(Act::One(OneOp::Clr), q, q);
     }
     if first {
-        first_step(verb, p, q)
+        step_of(at_first, p, q)
     } else {
-        other_step(verb, p, q)
-    }
-}
-
-fn highest_first(verb: Verb) -> bool
-    ensures { λ r. ⌜ r ≡ highestFirst verb ⌝ }
-{
-    match verb {
-        Verb::Clear => false,
-        Verb::Copy => false,
-        Verb::Add => false,
-        Verb::Sub => false,
-        Verb::Neg => false,
-        Verb::Not => false,
-        Verb::Halve => true,
-        Verb::Down => true,
-        Verb::Up => false,
+        step_of(at_other, p, q)
     }
 }
 
@@ -136,7 +93,7 @@ fn offset(verb: Verb, width: u8, index: u8) -> u8
     requires { ⌜ index < width ⌝ }
     ensures { λ r. ⌜ (r ≡ offsetOf verb width index) × (r < width) ⌝ }
 {
-    if highest_first(verb) {
+    if way_of(verb).falls {
         width - 1 - index
     } else {
         index
@@ -180,14 +137,10 @@ fn steps_of(width: u8, verb: Verb) -> u8
     if is_copy(verb) { 2 * width } else { width }
 }
 
-pub(crate) fn refused(refusal: Refusal, line: usize) -> Translated
-    ensures { λ r. ⌜ r ≡ refused refusal line ⌝ }
+pub(crate) fn translation(refused: Refused, count: usize) -> Translated
+    ensures { λ r. ⌜ r ≡ translation refused count ⌝ }
 {
-    Translated {
-        refusal,
-        line,
-        count: 0,
-    }
+    Translated { refused, count }
 }
 
 // The tests of the lines in turn, and the steps that they take together. Line k, from 0, is text line k + 2.
@@ -203,18 +156,14 @@ fn judge_lines(width: u8, count: usize, lines: [Line; LINES_MAX]) -> Translated
         let verb = line.verb;
         match check_line(numbers, line) {
             LineRead::Slip(refusal) => {
-                return refused(refusal, k + 2);
+                return translation(at_line(refusal, k + 2), 0);
             }
             LineRead::Read(_) => {}
         }
         steps += steps_of(width, verb) as usize;
         k += 1;
     }
-    Translated {
-        refusal: Refusal::Nothing,
-        line: 0,
-        count: steps,
-    }
+    translation(no_refusal(), steps)
 }
 
 // The tests of a recipe, in document 01's order, without that of the room; and the steps that it takes.
@@ -225,10 +174,10 @@ fn judge(recipe: Recipe) -> Translated
     let count = recipe.count;
     let lines = recipe.lines;
     if !is_width(width) {
-        return refused(Refusal::WidthLine, 1);
+        return translation(at_line(Refusal::WidthLine, 1), 0);
     }
     if LINES_MAX < count {
-        return refused(Refusal::TooManyLines, 0);
+        return translation(at_line(Refusal::TooManyLines, 0), 0);
     }
     judge_lines(width, count, lines)
 }
@@ -261,16 +210,58 @@ fn lay(width: u8, lines: [Line; LINES_MAX], total: usize) -> [Step; SLOTS]
 pub fn translate_array(recipe: Recipe) -> Listing
     ensures { λ r. ⌜ r ≡ translateOf recipe blanks ⌝ }
 {
-    let told = judge(recipe);
-    let refusal = told.refusal;
-    let count = told.count;
+    let judged = judge(recipe);
+    let refused = judged.refused;
+    let count = judged.count;
     let width = recipe.width;
     let lines = recipe.lines;
     let steps = lay(width, lines, count);
     Listing {
-        refusal,
-        line: told.line,
+        refused,
         count,
         steps,
     }
+}
+
+// All registers 0, all flags clear.
+fn at_rest() -> State
+    ensures { λ r. ⌜ r ≡ atRest ⌝ }
+{
+    let flags = Flags {
+        x: false,
+        n: false,
+        z: false,
+        v: false,
+        c: false,
+    };
+    State {
+        d: [0; 8],
+        a: [0; 8],
+        flags,
+    }
+}
+
+// The clock figure of a step, asked of the machine. A step of a recipe has the same figure whatever the registers hold.
+fn figure(step: Step) -> u64
+    ensures { λ r. ⌜ (r ≡ figureOf step) × (r < 2 ^ 32) ⌝ }
+{
+    let state = at_rest();
+    let performed = perform(state, step);
+    performed.clocks as u64
+}
+
+pub(crate) fn clocks(steps: [Step; SLOTS], count: usize) -> u64
+    ensures { λ r. ⌜ r ≡ clocksOf (take count steps) ⌝ }
+{
+    let mut sum: u64 = 0;
+    let mut k: usize = 0;
+    while k < SLOTS {
+        if count <= k {
+            return sum;
+        }
+        let step = steps[k];
+        sum += figure(step);
+        k += 1;
+    }
+    sum
 }

@@ -1,7 +1,6 @@
-// What a recipe is, its limits, why one is refused, and what its reader and its translator answer. In a contract `target` is
-// the definition of specs/, not the function here.
+// What a recipe is, its limits, why one is refused, and what its reader, its translator and its run answer.
 ghost use mathlib.Core.Path.{_≡_};
-ghost use Rattle.recipes.specs.Recipe.{numberOf, isNothing, takesTwo, isCopy, target, isWidth};
+ghost use Rattle.recipes.specs.Recipe.{numberOf, isNothing, atLine, noRefusal};
 use alu::types::Flags;
 use step::forms::Step;
 use step::runs::SLOTS;
@@ -55,26 +54,28 @@ pub enum Refusal {
     NoSpace,
 }
 
-// What the reader answers. `line` is the refused text line, counted from 1, and 0 where nothing is refused; a refused
-// text has a recipe of width 1 and no lines.
-pub struct Reading {
+// A refusal and the text line that it is of, counted from 1; the line is 0 where nothing is refused.
+pub struct Refused {
     pub refusal: Refusal,
     pub line: usize,
+}
+
+// What the reader answers. A refused text has a recipe of width 1 and no lines.
+pub struct Reading {
+    pub refused: Refused,
     pub recipe: Recipe,
 }
 
-// What the translator says: its refusal, the text line of that, and the number of steps, 0 where it refuses. Line k,
-// from 0, counts as text line k + 2 and the width as line 1; too many lines and too little room have line 0.
+// What the translator says: its refusal, and the number of steps, 0 where it refuses. Line k, from 0, counts as text line
+// k + 2 and the width as line 1; too many lines and too little room have line 0.
 pub struct Translated {
-    pub refusal: Refusal,
-    pub line: usize,
+    pub refused: Refused,
     pub count: usize,
 }
 
 // The same with the listing by value: its first `count` slots. The others are blank.
 pub struct Listing {
-    pub refusal: Refusal,
-    pub line: usize,
+    pub refused: Refused,
     pub count: usize,
     pub steps: [Step; SLOTS],
 }
@@ -86,11 +87,10 @@ pub enum Codes {
     Known(Flags),
 }
 
-// What came of a recipe that was run: its refusal and the text line of that; the registers, X, and what is told of all
-// flags; the steps done and the sum of their figures. A refused recipe leaves the state as it was.
+// What came of a recipe that was run: its refusal; the registers, X, and what is told of all flags; the steps done and the
+// sum of their figures. A refused recipe leaves the state as it was.
 pub struct RecipeRun {
-    pub refusal: Refusal,
-    pub line: usize,
+    pub refused: Refused,
     pub d: [u32; 8],
     pub a: [u32; 8],
     pub x: bool,
@@ -114,54 +114,23 @@ pub fn number(refusal: Refusal) -> u8
     }
 }
 
-pub(crate) fn is_nothing(refusal: Refusal) -> bool
-    ensures { λ r. ⌜ r ≡ isNothing refusal ⌝ }
+// Every refusal is made here.
+pub(crate) fn at_line(refusal: Refusal, line: usize) -> Refused
+    ensures { λ r. ⌜ r ≡ atLine refusal line ⌝ }
 {
+    Refused { refusal, line }
+}
+
+pub(crate) fn no_refusal() -> Refused
+    ensures { λ r. ⌜ r ≡ noRefusal ⌝ }
+{
+    at_line(Refusal::Nothing, 0)
+}
+
+// Whether nothing is refused.
+pub fn is_nothing(refused: Refused) -> bool
+    ensures { λ r. ⌜ r ≡ isNothing refused ⌝ }
+{
+    let refusal = refused.refusal;
     number(refusal) == 0
-}
-
-pub(crate) fn takes_two(verb: Verb) -> bool
-    ensures { λ r. ⌜ r ≡ takesTwo verb ⌝ }
-{
-    match verb {
-        Verb::Clear => false,
-        Verb::Copy => true,
-        Verb::Add => true,
-        Verb::Sub => true,
-        Verb::Neg => false,
-        Verb::Not => false,
-        Verb::Halve => false,
-        Verb::Down => false,
-        Verb::Up => false,
-    }
-}
-
-pub(crate) fn is_copy(verb: Verb) -> bool
-    ensures { λ r. ⌜ r ≡ isCopy verb ⌝ }
-{
-    match verb {
-        Verb::Clear => false,
-        Verb::Copy => true,
-        Verb::Add => false,
-        Verb::Sub => false,
-        Verb::Neg => false,
-        Verb::Not => false,
-        Verb::Halve => false,
-        Verb::Down => false,
-        Verb::Up => false,
-    }
-}
-
-// The number that a line changes.
-pub(crate) fn target(line: Line) -> u8
-    ensures { λ r. ⌜ r ≡ target line ⌝ }
-{
-    let verb = line.verb;
-    if takes_two(verb) { line.b } else { line.a }
-}
-
-pub(crate) fn is_width(width: u8) -> bool
-    ensures { λ r. ⌜ r ≡ isWidth width ⌝ }
-{
-    (width == 1) | (width == 2) | (width == 4)
 }

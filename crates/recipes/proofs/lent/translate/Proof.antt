@@ -143,15 +143,15 @@ field-is zs p = (p .0, ((ap (λ (v : Val). v ∷ []) (sym (field-val zs)) ∙ p 
 abbrev ahead : ℕ
 ahead = 24
 
-field-at : fieldOf L′.mir 3 ≡ just (array, ahead)
+field-at : fieldOf L′.mir 2 ≡ just (array, ahead)
 field-at = refl
 
 module _ {M : Type 1} (𝓤 : URA M) (H : Heap 𝓤) (A : Atoms 𝓤) (W : Given 𝓤 H A) (made : Listing) (l : ℕ) where
   abbrev with-steps : Val → Item 𝓤
-  with-steps u = ‵ (fat fullShare L′.mir l 0 (vstruct (setV (fieldsOf (l-val made)) 3 u)))
+  with-steps u = ‵ (fat fullShare L′.mir l 0 (vstruct (setV (fieldsOf (l-val made)) 2 u)))
 
   field-part : Part (Go {0}) W (‵ (fat fullShare L′.mir l 0 (l-val made))) fullShare array l ahead (f-val (made .steps)) with-steps
-  field-part = sub ! 3 field-at (whole !)
+  field-part = sub ! 2 field-at (whole !)
 
 -- ---- a local array of steps is what lies in memory from its place on, and back
 module _ {M : Type 1} (𝓤 : URA M) (H : Heap 𝓤) (A : Atoms 𝓤) (W : Given 𝓤 H A) (zs : List Step) (l : ℕ) (pz : Is Arr zs (a-val zs ∷ [])) where
@@ -310,7 +310,7 @@ module _ {M : Type 1} (𝓤 : URA M) (H : Heap 𝓤) (A : Atoms 𝓤) (W : Given
       zs = made .steps
 
       pz : Is Arr zs (a-val zs ∷ [])
-      pz = field-is zs (LL.owed L.the-type L′.the-laws made _ pm .1 .1 .1 .0)
+      pz = field-is zs (LL.owed L.the-type L′.the-laws made _ pm .1 .1 .0)
 
       zs-all : length zs ≡ arraySlots
       zs-all = pz .1 .0 .1
@@ -373,7 +373,7 @@ module _ {M : Type 1} (𝓤 : URA M) (H : Heap 𝓤) (A : Atoms 𝓤) (W : Given
         leaves : (u : Upto) → ltb (u .0) n ≡ false → Sq W (At u) (runs C Λ En mir.turn-1 (anyQ (After u)))
         unfolding afterTurn
         leaves u g =
-            assigns ! (bin ! (load ! (from ! (stop !)) (look ! 16 refl)) (load ! (from ! (fld ! refl (stop !))) (look-in ! 20 (sub ! 2 refl (whole !)))) tt) (from ! (stop !)) (init ! 12 refl (tt, tt)) $
+            assigns ! (bin ! (load ! (from ! (stop !)) (look ! 16 refl)) (load ! (from ! (fld ! refl (stop !))) (look-in ! 20 (sub ! 1 refl (whole !)))) tt) (from ! (stop !)) (init ! 12 refl (tt, tt)) $
             rewrite ! 12 (λ (t : Bool). ‵ (fat fullShare tyBool l₈ 0 (vbool t))) g refl $
             leaves-loop ! (load ! (from ! (stop !)) (look ! 12 refl)) $ exec ! C Λ En mir.t-7 (atRet En Post) $ finishes (u .0) (omega (arith, u .1, ltb-false (u .0) n g))
 
@@ -431,7 +431,7 @@ module _ {M : Type 1} (𝓤 : URA M) (H : Heap 𝓤) (A : Atoms 𝓤) (W : Given
           -- the test, and the step out of the array
           copies : Sq W (At u) (runs C Λ En mir.turn-1 (anyQ (After u)))
           copies =
-              assigns ! (bin ! (load ! (from ! (stop !)) (look ! 16 refl)) (load ! (from ! (fld ! refl (stop !))) (look-in ! 20 (sub ! 2 refl (whole !)))) tt) (from ! (stop !)) (init ! 12 refl (tt, tt)) $
+              assigns ! (bin ! (load ! (from ! (stop !)) (look ! 16 refl)) (load ! (from ! (fld ! refl (stop !))) (look-in ! 20 (sub ! 1 refl (whole !)))) tt) (from ! (stop !)) (init ! 12 refl (tt, tt)) $
               rewrite ! 12 (λ (t : Bool). ‵ (fat fullShare tyBool l₈ 0 (vbool t))) g refl $ stays ! (load ! (from ! (stop !)) (look ! 12 refl)) $
               -- the place of the step
               assigns ! (bin ! (load ! (from ! (stop !)) (look ! 16 refl)) (lit ! tt) (record { fits = scaled })) (from ! (stop !)) (init ! 10 refl (tt, record { fits = scaled })) $

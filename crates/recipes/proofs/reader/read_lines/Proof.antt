@@ -11,7 +11,7 @@ use Rattle.recipes.specs.Reader.{padded, orSlip, linesOf}
 use Rattle.recipes.specs.Text.{before, after}
 use Rattle.recipes.specs.Making.{from}
 use Rattle.recipes.specs.Recipe.{linesMax}
-use Rattle.recipes.proofs.Lines.{lines-many, lines-cut, lines-next, lines-done, padded-more}
+use Rattle.recipes.proofs.LineByLine.{lines-many, lines-cut, lines-next, lines-done, padded-more}
 use Rattle.recipes.proofs.reader.read_lines.Statement.{statement}
 use Rattle.recipes.proofs.reader.read_lines.Tie as tie
 
@@ -59,17 +59,17 @@ returns : tie.Need-returns Inv-loop μ-loop
 returns c =
     let s = c .before .before .before .loop .inv in
     let e : length (s .ls) ≡ linesMax = sym (s .many) ∙ c .before .if1 .taken in
-    rw (s .rest, lines-many _ _ _ (c .before .before .loop-test .taken) e, ← s .many) (c .refused .ensures)
+    rw (s .rest, lines-many _ _ _ (c .before .before .loop-test .taken) e, ← s .many) (c .refused-at .ensures)
 
 returns-2 : tie.Need-returns-2 Inv-loop μ-loop
 returns-2 c =
     let f = c .before .before in
     let s = f .before .before .before .loop .inv in
     let h = c .before .if2 .taken in
-    rw (s .rest, f .first .ensures .1 .none h, f .first .ensures .1 .whole h, lines-cut _ _ _ (f .before .before .loop-test .taken) (room (f .before)), ← s .many) (c .refused2 .ensures)
+    rw (s .rest, f .first .ensures .1 .none h, f .first .ensures .1 .whole h, lines-cut _ _ _ (f .before .before .loop-test .taken) (room (f .before)), ← s .many) (c .refused-at2 .ensures)
 
 returns-3 : tie.Need-returns-3 Inv-loop μ-loop
-returns-3 c = let k = c .before .before in rw (turn (k .before .before), k .refusal .given .1) (c .refused3 .ensures)
+returns-3 c = let k = c .before .before in rw (turn (k .before .before), k .refusal .given .1) (c .refused-at3 .ensures)
 
 loop-again : tie.Need-loop-again Inv-loop μ-loop
 loop-again c =
@@ -88,8 +88,8 @@ loop-again c =
 
 returns-4 : tie.Need-returns-4 Inv-loop μ-loop
 returns-4 c =
-    let s = c .before .before .loop .inv in
-    rw (s .rest, lines-done _ _ _ (c .before .loop-test .left)) (rw (s .many, s .stored) at (c .reading .ensures))
+    let s = c .before .before .before .loop .inv in
+    rw (s .rest, lines-done _ _ _ (c .before .before .loop-test .left)) (rw (s .many, s .stored) at (rw (c .before .no-refusal .ensures) at (c .reading .ensures)))
 
 pub read-lines-spec : {M : Type 1} → statement M
 read-lines-spec =
@@ -97,4 +97,4 @@ read-lines-spec =
     (tie.spec
     Inv-loop μ-loop (search needs) (search needs) loop-holds (search needs) (search needs) returns (search needs) (search needs) (search needs)
     returns-2 (search needs) (search needs) (search needs) (search needs) (search needs) returns-3 (search needs) (search needs) (search needs)
-    (search needs) (search needs) (search needs) (search needs) (search needs) (search needs) loop-again (search needs) returns-4)
+    (search needs) (search needs) (search needs) (search needs) (search needs) (search needs) loop-again (search needs) (search needs) returns-4)

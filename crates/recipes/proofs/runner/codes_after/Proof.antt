@@ -16,13 +16,13 @@ returns-2 : tie.Need-returns-2
 returns-2 c =
     let s = c .before .before .before .before in
     let size : length (s .args .t1) ≡ linesMax = search mapped in
-    rw (← codes-of (s .args .t1) (s .args .count) (s .args .flags) (omega arith) (omega (arith, size)), sym (c .before .tells-all .ensures) ∙ c .if2 .taken)
+    rw (← codes-of (s .args .t1) (s .args .count) (s .args .flags) (omega arith) (omega (arith, size)), ← c .before .way-of .ensures, c .if2 .taken)
 
 returns-3 : tie.Need-returns-3
 returns-3 c =
     let s = c .before .before .before .before in
     let size : length (s .args .t1) ≡ linesMax = search mapped in
-    rw (← codes-of (s .args .t1) (s .args .count) (s .args .flags) (omega arith) (omega (arith, size)), sym (c .before .tells-all .ensures) ∙ c .if2 .left)
+    rw (← codes-of (s .args .t1) (s .args .count) (s .args .flags) (omega arith) (omega (arith, size)), ← c .before .way-of .ensures, c .if2 .left)
 
 pub codes-after-spec : {M : Type 1} → statement M
 codes-after-spec = tie.close (tie.spec returns (search needs) (search needs) (search needs) (search needs) returns-2 returns-3)

@@ -11,14 +11,14 @@ returns : tie.Need-returns
 returns c =
     let i = c .before in
     let n = i .before in
-    let t = n .before in
-    c .refused .ensures ∙ run-refused _ _ _ (t .translate-array .ensures) (sym (n .is-nothing .ensures) ∙ not-true (n .is-nothing .result) (i .if1 .taken))
+    let t = n .before .before in
+    c .untouched .ensures ∙ run-refused _ _ _ (t .translate-array .ensures) (sym (n .is-nothing .ensures) ∙ not-true (n .is-nothing .result) (i .if1 .taken))
 
 codes-after-requires : tie.Need-codes-after-requires
 codes-after-requires c κs =
     let i = c .before .before .before .before .before .before in
     let n = i .before in
-    let t = n .before in
+    let t = n .before .before in
     made-good _ _ (t .translate-array .ensures) (sym (n .is-nothing .ensures) ∙ not-false (n .is-nothing .result) (i .if1 .left)) .few
 
 returns-2 : tie.Need-returns-2
@@ -26,7 +26,7 @@ returns-2 c =
     let run = c .before .before .before .before .before in
     let i = run .before .before in
     let n = i .before in
-    let t = n .before in
+    let t = n .before .before in
     let s = t .before .before in
     let g = s .good .1 .0 in
     let ok : EightLongs (s .args .state .d) = search longs-owned in

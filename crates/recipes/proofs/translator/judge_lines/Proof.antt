@@ -24,11 +24,11 @@ loop-holds c =
 
 returns : tie.Need-returns Inv-loop μ-loop
 returns c =
-    let k = c .before .before in
+    let k = c .before .before .before in
     let e = k .before .before in
     let t = e .before .before in
     let l = t .before .loop in
-    c .refused .ensures ∙ passed-slip _ _ _ _ _ (l .inv .1) _ (t .loop-test .taken) (sym (e .check-line .ensures) ∙ k .refusal .given .1)
+    rw (c .before .at-line .ensures) at (c .translation .ensures) ∙ passed-slip _ _ _ _ _ (l .inv .1) _ (t .loop-test .taken) (sym (e .check-line .ensures) ∙ k .refusal .given .1)
 
 add-steps : tie.Need-add-steps Inv-loop μ-loop
 add-steps c = let l = c .before .before .before .before .before .before .loop in let h = l .inv .1 .few in let m = c .steps-of .ensures .1 in search needs
@@ -43,11 +43,11 @@ loop-again c =
     )
 
 returns-2 : tie.Need-returns-2 Inv-loop μ-loop
-returns-2 c = passed-all _ _ _ _ _ (c .before .loop .inv .1) (c .loop-test .left)
+returns-2 c = rw (c .before .no-refusal .ensures) at (c .translation2 .ensures) ∙ passed-all _ _ _ _ _ (c .before .before .before .loop .inv .1) (c .before .before .loop-test .left)
 
 pub judge-lines-spec : {M : Type 1} → statement M
 judge-lines-spec =
     tie.close
     (tie.spec
-    Inv-loop μ-loop (search needs) loop-holds (search needs) (search needs) (search needs) (search needs) (search needs) (search needs) returns
-    (search needs) (search needs) (search needs) add-steps (search needs) (search needs) loop-again returns-2)
+    Inv-loop μ-loop (search needs) loop-holds (search needs) (search needs) (search needs) (search needs) (search needs) (search needs) (search needs) returns
+    (search needs) (search needs) (search needs) add-steps (search needs) (search needs) loop-again (search needs) (search needs) returns-2)

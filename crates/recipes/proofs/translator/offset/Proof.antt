@@ -5,7 +5,7 @@ use Rattle.recipes.proofs.translator.offset.Statement.{statement}
 use Rattle.recipes.proofs.translator.offset.Tie as tie
 
 returns : tie.Need-returns
-returns c = (rw (sym (c .before .highest-first .ensures) ∙ c .if1 .taken), search needs)
+returns c = (rw (← c .before .way-of .ensures, c .if1 .taken), search needs)
 
 pub offset-spec : {M : Type 1} → statement M
 offset-spec = tie.close (tie.spec (search needs) (search needs) (search needs) returns (λ c. search needs))

@@ -1,11 +1,11 @@
--- `recipes::reader::check_line` meets its contract: its tests are the definition's. Assumes nothing.
+-- `recipes::lines::check_line` meets its contract: its tests are the definition's. Assumes nothing.
 use mathlib.Core.Path.{_≡_}
 use mathlib.Core.Bool.{true, false, _&&_}
 use lib.Dec.{eqb}
 use borrow.Author.Needs.{needs}
 use Rattle.recipes.specs.Recipe.{isCopy, target, lineChecked}
-use Rattle.recipes.proofs.reader.check_line.Statement.{statement}
-use Rattle.recipes.proofs.reader.check_line.Tie as tie
+use Rattle.recipes.proofs.lines.check_line.Statement.{statement}
+use Rattle.recipes.proofs.lines.check_line.Tie as tie
 
 returns : tie.Need-returns
 unfolding lineChecked

@@ -1,4 +1,4 @@
--- `recipes::printer::clocks` meets its contract: a turn of the loop adds one figure. Assumes nothing.
+-- `recipes::translator::clocks` meets its contract: a turn of the loop adds one figure. Assumes nothing.
 use Prim.Native.Nat.{_-_, _*_, _^_, _≤_, _<_}
 use mathlib.Core.Path.{_≡_, refl}
 use native.Mathlib.Omega.{arith}
@@ -8,8 +8,8 @@ use borrow.Author.Needs.{needs}
 use Rattle.recipes.specs.Listing.{clocksOf}
 use Rattle.recipes.proofs.Writing.{mapped}
 use Rattle.recipes.proofs.Printing.{clocks-next}
-use Rattle.recipes.proofs.printer.clocks.Statement.{statement}
-use Rattle.recipes.proofs.printer.clocks.Tie as tie
+use Rattle.recipes.proofs.translator.clocks.Statement.{statement}
+use Rattle.recipes.proofs.translator.clocks.Tie as tie
 use Rattle.step.specs.Run.{arraySlots}
 
 abbrev Inv-loop : tie.InvT-loop

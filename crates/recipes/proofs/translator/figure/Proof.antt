@@ -1,12 +1,12 @@
--- `recipes::printer::figure` meets its contract: the machine is asked. Assumes nothing.
+-- `recipes::translator::figure` meets its contract: the machine is asked. Assumes nothing.
 use mathlib.Core.Path.{ap, _∙_}
 use borrow.Author.Needs.{needs}
 use Rattle.step.specs.declared.registers.State.{State}
 use Rattle.step.specs.declared.steps.Performed.{Performed}
 use Rattle.step.specs.Perform.{performOf}
 use Rattle.recipes.specs.Listing.{figureOf}
-use Rattle.recipes.proofs.printer.figure.Statement.{statement}
-use Rattle.recipes.proofs.printer.figure.Tie as tie
+use Rattle.recipes.proofs.translator.figure.Statement.{statement}
+use Rattle.recipes.proofs.translator.figure.Tie as tie
 
 returns : tie.Need-returns
 unfolding figureOf
