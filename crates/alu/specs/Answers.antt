@@ -25,6 +25,10 @@ accepted result flags clocks = record { verdict = Accepted; result = result; fla
 abbrev pub refused : Verdict → Flags → Answer
 refused verdict flags = record { verdict = verdict; result = 0; flags = flags; clocks = 0 }
 
+-- the answer with another clock figure
+abbrev pub refigured : Answer → (clocks : ℕ) → Answer
+refigured a clocks = record { verdict = a .verdict; result = a .result; flags = a .flags; clocks = clocks }
+
 -- a clock figure: `short` for byte and word, `long` for long
 abbrev pub figure : Size → (short long : ℕ) → ℕ
 figure Byte short long = short

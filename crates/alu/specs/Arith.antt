@@ -15,7 +15,7 @@ use Rattle.alu.specs.declared.types.Check.the-variants.{Pass, Over, Shor
 use Rattle.alu.specs.declared.types.Checked.{Checked}
 use Rattle.alu.specs.Bits.{bitsOf, low, digit, join, signed, fits, complement, extended}
 use Rattle.alu.specs.ConditionCodes.{addFlags, subFlags, negFlags, keepZ, keepX, logicFlags}
-use Rattle.alu.specs.Answers.{accepted, figure, unlessByte, chkFigure, onlyWord}
+use Rattle.alu.specs.Answers.{accepted, refigured, figure, unlessByte, chkFigure, onlyWord}
 
 -- d + s + x and d - s - x in n bits; x is the X flag that goes in, or false
 unfoldable pub sum : (n s d : ℕ) → (x : Bool) → ℕ
@@ -62,10 +62,10 @@ negxOf size d f =
 
 -- ADDQ, SUBQ on a data register: ADD and SUB with a figure of their own. Here s is any number; only a step holds it to 1 to 8
 abbrev pub addqOf : Size → (s d : ℕ) → Flags → Answer
-addqOf size s d f = let a = addOf size s d f in accepted (a .result) (a .flags) (figure size 4 8)
+addqOf size s d f = refigured (addOf size s d f) (figure size 4 8)
 
 abbrev pub subqOf : Size → (s d : ℕ) → Flags → Answer
-subqOf size s d f = let a = subOf size s d f in accepted (a .result) (a .flags) (figure size 4 8)
+subqOf size s d f = refigured (subOf size s d f) (figure size 4 8)
 
 -- ADDQ, SUBQ on an address register: 32 bits are used at either size, no flag is touched
 abbrev pub addqAddressOf : Size → (s d : ℕ) → Flags → Answer
@@ -85,10 +85,9 @@ addaOf size s d f = unlessByte size f (accepted (sum 32 (addressSource size s) d
 abbrev pub subaOf : Size → (s d : ℕ) → Flags → Answer
 subaOf size s d f = unlessByte size f (accepted (difference 32 (addressSource size s) d false) f 8)
 
--- CMPA: the flags of long CMP, X kept; the destination comes back as it was handed in
+-- CMPA: long CMP with a figure of its own; so X is kept, and the destination comes back as it was handed in
 abbrev pub cmpaOf : Size → (s d : ℕ) → Flags → Answer
-cmpaOf size s d f =
-    let a = cmpOf Long (addressSource size s) d f in unlessByte size f (accepted d (a .flags) 6)
+cmpaOf size s d f = unlessByte size f (refigured (cmpOf Long (addressSource size s) d f) 6)
 
 -- CLR: the result is 0, whatever was there
 abbrev pub clrOf : Size → Flags → Answer

@@ -1,5 +1,5 @@
 // The integer arithmetic of registers, on values and flags: integer_arith.rs of the crate m68k, in its
-// order. In a contract `top` and `raised` are the definitions of specs/, not the functions.
+// order. In a contract `top`, `raised` and `refigured` are the definitions of specs/, not the functions.
 //
 // Bits of an operand above its size do not count, but: an address register is used whole, and so is the
 // source of ADDQ and SUBQ on one; EXT word keeps the upper 16 bits; CMP, CMPA and CHK hand the
@@ -8,7 +8,7 @@ ghost use mathlib.Core.Path.{_≡_};
 ghost use Prim.Native.Nat.{_-_, _^_, _≤_};
 ghost use Rattle.alu.specs.Bits.{bitsOf, top, raised, extended};
 ghost use Rattle.alu.specs.ConditionCodes.{arithFlags, addFlags, subFlags, logicFlags, keepZ, keepX};
-ghost use Rattle.alu.specs.Answers.{unlessByte, chkFigure, onlyWord};
+ghost use Rattle.alu.specs.Answers.{refigured, unlessByte, chkFigure, onlyWord};
 ghost use Rattle.alu.specs.Arith.{sum, difference, addressSource, extResult, checkOf};
 ghost use Rattle.alu.specs.Arith.{addOf, addaOf, addqOf, addqAddressOf, addxOf, subOf, subaOf, subqOf, subqAddressOf, subxOf};
 ghost use Rattle.alu.specs.Arith.{cmpOf, cmpaOf, clrOf, negOf, negxOf, notOf, extOf, chkOf};
@@ -111,6 +111,25 @@ fn unless_byte(size: Size, flags: Flags, answer: Answer) -> Answer
     }
 }
 
+// The answer with another clock figure. The flags go over one by one, as in `accepted`.
+fn refigured(answer: Answer, clocks: u32) -> Answer
+    ensures { λ r. ⌜ r ≡ refigured answer clocks ⌝ }
+{
+    let verdict = answer.verdict;
+    Answer {
+        verdict: verdict,
+        result: answer.result,
+        flags: Flags {
+            x: answer.flags.x,
+            n: answer.flags.n,
+            z: answer.flags.z,
+            v: answer.flags.v,
+            c: answer.flags.c,
+        },
+        clocks: clocks,
+    }
+}
+
 // ADD <ea>,Dn
 pub fn exec_add(size: Size, src: u32, dst: u32, flags: Flags) -> Answer
     ensures { λ r. ⌜ r ≡ addOf size src dst flags ⌝ }
@@ -134,8 +153,7 @@ pub fn exec_addq(size: Size, src: u32, dst: u32, flags: Flags) -> Answer
     ensures { λ r. ⌜ r ≡ addqOf size src dst flags ⌝ }
 {
     let answer = exec_add(size, src, dst, flags);
-    let new = answer.flags;
-    accepted(answer.result, new, figure(size, 4, 8))
+    refigured(answer, figure(size, 4, 8))
 }
 
 // ADDQ #<data>,An: m68k's exec_addq with AddressDirect. All 32 bits are used at either size; no
@@ -179,8 +197,7 @@ pub fn exec_subq(size: Size, src: u32, dst: u32, flags: Flags) -> Answer
     ensures { λ r. ⌜ r ≡ subqOf size src dst flags ⌝ }
 {
     let answer = exec_sub(size, src, dst, flags);
-    let new = answer.flags;
-    accepted(answer.result, new, figure(size, 4, 8))
+    refigured(answer, figure(size, 4, 8))
 }
 
 // SUBQ #<data>,An
@@ -215,8 +232,7 @@ pub fn exec_cmpa(size: Size, src: u32, dst: u32, flags: Flags) -> Answer
 {
     let source = address_source(size, src);
     let long = exec_cmp(Size::Long, source, dst, flags);
-    let new = long.flags;
-    unless_byte(size, flags, accepted(dst, new, 6))
+    unless_byte(size, flags, refigured(long, 6))
 }
 
 // CLR Dn
