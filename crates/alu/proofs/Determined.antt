@@ -14,6 +14,8 @@ use Rattle.alu.proofs.types.masked.Reads as masked
 use Rattle.alu.proofs.types.top.Reads as top
 use Rattle.alu.proofs.types.digit.Reads as digit
 use Rattle.alu.proofs.types.result_flags.Reads as result-flags
+use Rattle.alu.proofs.types.flags_of.Reads as flags-of
+use Rattle.alu.proofs.types.ccr.Reads as ccr
 use Rattle.alu.proofs.types.accepted.Reads as accepted
 use Rattle.alu.proofs.types.refused.Reads as refused
 use Rattle.alu.proofs.types.figure.Reads as figure
@@ -69,6 +71,8 @@ determined =
     fixed top.Learnt (one-equation _) ∷
     fixed digit.Learnt (one-equation _) ∷
     fixed result-flags.Learnt (one-equation _) ∷
+    fixed flags-of.Learnt (one-equation _) ∷
+    fixed ccr.Learnt (one-equation _) ∷
     fixed accepted.Learnt (one-equation _) ∷
     fixed refused.Learnt (one-equation _) ∷
     fixed figure.Learnt (one-equation _) ∷

@@ -17,5 +17,7 @@ mod Overflow
 pub mod Counts
 pub mod Products
 pub mod Masked
+pub mod Codes
+pub mod Figures
 pub mod Sums
 pub mod Determined

@@ -2,11 +2,11 @@
 -- the shifts are in Shifts, CHK's flags in Arith, Z of the bit operations in Bitops.)
 -- s, d and r are the source, the destination and the result; the formulas take their top bits Sm, Dm, Rm. n is the number of bits;
 -- the field `n` of `Flags` is the flag N. Assumes nothing.
-use Prim.Native.Nat.{ℕ}
+use Prim.Native.Nat.{ℕ, _+_, _*_}
 use mathlib.Core.Bool.{Bool, false, not, _&&_, _||_}
 use lib.Dec.{eqb}
 use Rattle.alu.specs.declared.types.Flags.{Flags}
-use Rattle.alu.specs.Bits.{low, top}
+use Rattle.alu.specs.Bits.{low, top, bit, digit}
 
 -- ADD, ADDX
 abbrev pub addV : (s d r : Bool) → Bool
@@ -58,6 +58,13 @@ keepX old new = record { x = old .x; n = new .n; z = new .z; v = new .v; c = new
 -- the row of the logic operations, here of CLR, NOT and EXT: N and Z of the result, V and C cleared, X kept
 unfoldable pub logicFlags : (n r : ℕ) → Flags → Flags
 logicFlags n r f = resultFlags n r (f .x) false false
+
+-- the flags as the 68000 packs them in a byte: X 16, N 8, Z 4, V 2, C 1; bits above do not count
+abbrev pub flagsOf : (ccr : ℕ) → Flags
+flagsOf ccr = record { x = bit 4 ccr; n = bit 3 ccr; z = bit 2 ccr; v = bit 1 ccr; c = bit 0 ccr }
+
+abbrev pub ccrOf : Flags → ℕ
+ccrOf f = digit (f .x) * 16 + digit (f .n) * 8 + digit (f .z) * 4 + digit (f .v) * 2 + digit (f .c)
 
 -- the condition LT of the Manual's conditional tests, of the flags N and V: a term of the laws alone
 abbrev pub isLT : (n v : Bool) → Bool

@@ -1,8 +1,9 @@
 // Sizes, flags, verdicts and answers, and the helpers that more than one module takes. In a contract `top`, `digit`,
 // `accepted`, `refused` and `figure` are the definitions of specs/, not the functions here.
 ghost use mathlib.Core.Path.{_≡_};
+ghost use Prim.Native.Nat.{_*_, _≤_};
 ghost use Rattle.alu.specs.Bits.{bitsOf, low, top, digit};
-ghost use Rattle.alu.specs.ConditionCodes.{resultFlags};
+ghost use Rattle.alu.specs.ConditionCodes.{resultFlags, flagsOf, ccrOf};
 ghost use Rattle.alu.specs.Answers.{numberOf, classOf, accepted, refused, figure};
 
 // The size of an operation: 8, 16 or 32 bits.
@@ -114,6 +115,33 @@ pub fn result_flags(size: Size, result: u32, x: bool, v: bool, c: bool) -> Flags
         v: v,
         c: c,
     }
+}
+
+// The flags of a packed byte, as the 68000 packs them; its bits above X don't count.
+pub fn flags_of(ccr: u8) -> Flags
+    ensures { λ r. ⌜ r ≡ flagsOf ccr ⌝ }
+{
+    Flags {
+        x: ccr / 16 % 2 == 1,
+        n: ccr / 8 % 2 == 1,
+        z: ccr / 4 % 2 == 1,
+        v: ccr / 2 % 2 == 1,
+        c: ccr % 2 == 1,
+    }
+}
+
+// The weight of a flag that is set, else 0.
+fn weigh(flag: bool, weight: u8) -> u8
+    ensures { λ r. ⌜ (r ≡ digit flag * weight) × (r ≤ weight) ⌝ }
+{
+    if flag { weight } else { 0 }
+}
+
+// The flags as a packed byte.
+pub fn ccr(f: Flags) -> u8
+    ensures { λ r. ⌜ r ≡ ccrOf f ⌝ }
+{
+    weigh(f.x, 16) + weigh(f.n, 8) + weigh(f.z, 4) + weigh(f.v, 2) + weigh(f.c, 1)
 }
 
 // An accepted answer. Here and in `refused` the flags go over one by one: a `Flags` that is moved

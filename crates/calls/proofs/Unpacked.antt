@@ -7,30 +7,29 @@ use mathlib.Core.Path.{_≡_, refl, ap, _∙_}
 use mathlib.Core.Bool.{Bool, true, false, cond, false≢true}
 use mathlib.Core.List.{List, [], _∷_}
 use native.Mathlib.Omega.{arith}
-use borrow.Author.Tests.{ltb-false}
-use lib.Dec.{eqb, ltb, lit<, lit≤}
+use lib.Dec.{eqb, lit<, lit≤}
 use Rattle.alu.specs.declared.types.Size.{Size}
 use Rattle.alu.specs.declared.types.Size.the-variants.{Byte, Word, Long}
 use Rattle.alu.specs.declared.types.Flags.{Flags}
 use Rattle.alu.specs.declared.types.Answer.{Answer}
-use Rattle.alu.specs.declared.types.Verdict.the-variants.{BadCount}
-use Rattle.alu.specs.declared.types.Check.{Check}
-use Rattle.alu.specs.declared.types.Check.the-variants.{Pass, Over, Short, Below}
 use Rattle.alu.specs.declared.types.Checked.{Checked}
 use Rattle.alu.specs.declared.shift_rotate.ShiftOp.{ShiftOp}
 use Rattle.alu.specs.declared.shift_rotate.ShiftOp.the-variants.{Asl, Asr, Lsl, Lsr, Rol, Ror, Roxl, Roxr}
 use Rattle.alu.specs.declared.bit_manip.BitOp.{BitOp}
 use Rattle.alu.specs.declared.bit_manip.BitOp.the-variants.{Btst, Bset, Bclr, Bchg}
-use Rattle.alu.specs.Bits.{bitsOf, digit}
-use Rattle.alu.specs.Answers.{numberOf, classOf, refused, figure, unlessByte, chkFigure}
-use Rattle.alu.specs.Arith.{extOf, checkOf, chkOf}
-use Rattle.alu.specs.Shifts.{moved, through, shiftOf}
-use Rattle.alu.specs.Bitops.{bitFigure, bitopOf}
-use Rattle.alu.proofs.Bounds.{digit-le, number-le, class-le, figure-le}
+use Rattle.alu.specs.Bits.{bitsOf}
+use Rattle.alu.specs.ConditionCodes.{flagsOf, ccrOf}
+use Rattle.alu.specs.Answers.{numberOf, classOf, unlessByte}
+use Rattle.alu.specs.Arith.{extOf, chkOf}
+use Rattle.alu.specs.Shifts.{shiftOf}
+use Rattle.alu.specs.Bitops.{bitopOf}
+use Rattle.alu.proofs.Bounds.{number-le, class-le}
+use Rattle.alu.proofs.Figures.{size-small, unless-small, shift-small, bit-small, chk-small}
+use Rattle.alu.proofs.Codes.{ccr-le, flags-back}
 use Rattle.alu.proofs.Masked.{handsBack, results}
 use Rattle.calls.specs.declared.Found.{Found}
 use Rattle.calls.specs.declared.Found.the-variants.{Is, NoSize}
-use Rattle.calls.specs.Packed.{Row, two, check, operations, numberIn, done, chosen, answerOf, askedOf, callOf, sizeOf, flagsOf, ccrOf, packed}
+use Rattle.calls.specs.Packed.{Row, two, check, operations, numberIn, done, chosen, answerOf, askedOf, callOf, sizeOf, packed}
 
 -- ---- what an operation answers fits its place: the figure, and the result where the destination d has 32 bits
 
@@ -49,15 +48,6 @@ long : (size : Size) (r : ℕ) → r < 2 ^ bitsOf size → r < 2 ^ 32
 long Byte r h = omega arith
 long Word r h = omega arith
 long Long r h = h
-
--- figures of a size, and of an operation without a byte form
-two-of : (size : Size) (more : ℕ) → more ≤ 8 → figure size 4 more < 2 ^ 8
-two-of size more h = omega (arith, figure-le size 4 more 8 (lit≤ tt) h)
-
-unless : (size : Size) (f : Flags) (a : Answer) → a .clocks < 2 ^ 8 → unlessByte size f a .clocks < 2 ^ 8
-unless Byte f a h = lit< tt
-unless Word f a h = h
-unless Long f a h = h
 
 unless-result : (size : Size) (f : Flags) (a : Answer) → a .result < 2 ^ 32 → unlessByte size f a .result < 2 ^ 32
 unless-result Byte f a h = lit< tt
@@ -88,58 +78,19 @@ shift-result op size count d f h = go (handsBack op count) refl
     go true e = rw (handed op size count d f e) h
     go false e = long size (shiftOf op size count d f .result) (results .shift op size count d f e)
 
-positions : (size : Size) (k : ℕ) → k < 64 → figure size 6 8 + 2 * k < 2 ^ 8
-positions size k h = omega (arith, figure-le size 6 8 8 (omega arith) (omega arith))
-
--- ROXL and ROXR refuse a count above 63
-within : (size : Size) (count : ℕ) (t : Bool) (none some : Answer) → ltb 63 count ≡ t → none .clocks ≡ 0 → some .clocks ≡ figure size 6 8 + 2 * count
-    → cond t none some .clocks < 2 ^ 8
-within size count true none some e z is = rw z (lit< tt)
-within size count false none some e z is = rw is (positions size count (omega (arith, ltb-false 63 count e)))
-
-shift-small : (op : ShiftOp) (size : Size) (count d : ℕ) (f : Flags) → shiftOf op size count d f .clocks < 2 ^ 8
-unfolding shiftOf
-shift-small Asl size count d f = positions size (count % 64) (omega arith)
-shift-small Asr size count d f = positions size (count % 64) (omega arith)
-shift-small Lsl size count d f = positions size (count % 64) (omega arith)
-shift-small Lsr size count d f = positions size (count % 64) (omega arith)
-shift-small Rol size count d f = positions size (count % 64) (omega arith)
-shift-small Ror size count d f = positions size (count % 64) (omega arith)
-shift-small Roxl size count d f = within size count (ltb 63 count) (refused BadCount f) (through size count (moved Roxl (bitsOf size) count d (f .x))) refl refl refl
-shift-small Roxr size count d f = within size count (ltb 63 count) (refused BadCount f) (through size count (moved Roxr (bitsOf size) count d (f .x))) refl refl refl
-
-upper : (t : Bool) → cond t 6 8 < 2 ^ 8
-upper true = lit< tt
-upper false = lit< tt
-
-bit-figure-small : (op : BitOp) (k : ℕ) → bitFigure op k < 2 ^ 8
-bit-figure-small Btst k = lit< tt
-bit-figure-small Bset k = upper (ltb k 16)
-bit-figure-small Bclr k = lit< tt
-bit-figure-small Bchg k = upper (ltb k 16)
-
-bit-small : (op : BitOp) (size : Size) (number d : ℕ) (f : Flags) → bitopOf op size number d f .clocks < 2 ^ 8
-unfolding bitopOf
-bit-small op Byte number d f = lit< tt
-bit-small op Word number d f = lit< tt
-bit-small op Long number d f = bit-figure-small op (number % 32)
-
-check-small : (c : Check) → chkFigure c < 2 ^ 8
-check-small Pass = lit< tt
-check-small Over = lit< tt
-check-small Short = lit< tt
-check-small Below = lit< tt
-
 shift-fits : (n : ℕ) (op : ShiftOp) → RowFits (two n (shiftOf op))
 shift-fits n op size s d f = (shift-small op size s d f, λ h. shift-result op size s d f h)
 
 bit-fits : (n : ℕ) (op : BitOp) → RowFits (two n (bitopOf op))
 bit-fits n op size s d f = (bit-small op size s d f, λ h. results .bitop op size s d f h)
 
+chk-result : (size : Size) (s d : ℕ) (f : Flags) → d < 2 ^ 32 → chkOf size s d f .answer .result < 2 ^ 32
+chk-result Byte s d f h = lit< tt
+chk-result Word s d f h = h
+chk-result Long s d f h = lit< tt
+
 chk-fits : RowFits (check 0x1d chkOf)
-chk-fits Byte s d f = (lit< tt, λ h. lit< tt)
-chk-fits Word s d f = (check-small (checkOf 16 s d), λ h. h)
-chk-fits Long s d f = (lit< tt, λ h. lit< tt)
+chk-fits size s d f = (chk-small size s d f, chk-result size s d f)
 
 -- the rows in their order
 rows-fit : RowsFit operations
@@ -150,18 +101,18 @@ rows-fit =
     (λ size s d f. (lit< tt, λ h. h)) and
     (λ size s d f. (lit< tt, λ h. long size _ (results .addx size s d f))) and
     (λ size s d f. (lit< tt, λ h. long size _ (results .subx size s d f))) and
-    (λ size s d f. (unless size f _ (lit< tt), λ h. results .adda size s d f)) and
-    (λ size s d f. (unless size f _ (lit< tt), λ h. results .suba size s d f)) and
-    (λ size s d f. (unless size f _ (lit< tt), λ h. unless-result size f _ h)) and
-    (λ size s d f. (two-of size 8 (lit≤ tt), λ h. long size _ (results .addq size s d f))) and
-    (λ size s d f. (two-of size 8 (lit≤ tt), λ h. long size _ (results .subq size s d f))) and
-    (λ size s d f. (unless size f _ (lit< tt), λ h. results .addq-address size s d f)) and
-    (λ size s d f. (unless size f _ (lit< tt), λ h. results .subq-address size s d f)) and
-    (λ size s d f. (two-of size 6 (lit≤ tt), λ h. long size _ (results .clr size s d f))) and
-    (λ size s d f. (two-of size 6 (lit≤ tt), λ h. long size _ (results .neg size s d f))) and
-    (λ size s d f. (two-of size 6 (lit≤ tt), λ h. long size _ (results .negx size s d f))) and
-    (λ size s d f. (two-of size 6 (lit≤ tt), λ h. long size _ (results .not size s d f))) and
-    (λ size s d f. (unless size f _ (lit< tt), λ h. ext-result size d f h)) and
+    (λ size s d f. (unless-small size f _ (lit< tt), λ h. results .adda size s d f)) and
+    (λ size s d f. (unless-small size f _ (lit< tt), λ h. results .suba size s d f)) and
+    (λ size s d f. (unless-small size f _ (lit< tt), λ h. unless-result size f _ h)) and
+    (λ size s d f. (size-small size 8 (lit≤ tt), λ h. long size _ (results .addq size s d f))) and
+    (λ size s d f. (size-small size 8 (lit≤ tt), λ h. long size _ (results .subq size s d f))) and
+    (λ size s d f. (unless-small size f _ (lit< tt), λ h. results .addq-address size s d f)) and
+    (λ size s d f. (unless-small size f _ (lit< tt), λ h. results .subq-address size s d f)) and
+    (λ size s d f. (size-small size 6 (lit≤ tt), λ h. long size _ (results .clr size s d f))) and
+    (λ size s d f. (size-small size 6 (lit≤ tt), λ h. long size _ (results .neg size s d f))) and
+    (λ size s d f. (size-small size 6 (lit≤ tt), λ h. long size _ (results .negx size s d f))) and
+    (λ size s d f. (size-small size 6 (lit≤ tt), λ h. long size _ (results .not size s d f))) and
+    (λ size s d f. (unless-small size f _ (lit< tt), λ h. ext-result size d f h)) and
     shift-fits 0x11 Asl and
     shift-fits 0x12 Asr and
     shift-fits 0x13 Lsl and
@@ -216,28 +167,6 @@ part-3 a b c d e h i j k = omega arith
 
 part-4 : (a b c d e : ℕ) → a < 4294967296 → b ≤ 31 → c < 256 → d ≤ 2 → e ≤ 3 → laid a b c d e / 4503599627370496 % 4 ≡ e
 part-4 a b c d e h i j k l = omega arith
-
-digit-back : (b : Bool) {n : ℕ} → n ≡ digit b → eqb n 1 ≡ b
-digit-back true e = rw e
-digit-back false e = rw e
-
-ccr-le : (f : Flags) → ccrOf f ≤ 31
-ccr-le f = omega (arith, digit-le (f .x), digit-le (f .n), digit-le (f .z), digit-le (f .v), digit-le (f .c))
-
-flags-back : (f : Flags) → flagsOf (ccrOf f) ≡ f
-flags-back f =
-    let x = digit-le (f .x) in
-    let n = digit-le (f .n) in
-    let z = digit-le (f .z) in
-    let v = digit-le (f .v) in
-    let c = digit-le (f .c) in
-    rw (
-      digit-back (f .x) {n = ccrOf f / 16 % 2} (omega arith),
-      digit-back (f .n) {n = ccrOf f / 8 % 2} (omega arith),
-      digit-back (f .z) {n = ccrOf f / 4 % 2} (omega arith),
-      digit-back (f .v) {n = ccrOf f / 2 % 2} (omega arith),
-      digit-back (f .c) {n = ccrOf f / 1 % 2} (omega arith),
-    )
 
 pub unpacked : (k : Checked) → k .answer .result < 2 ^ 32 → k .answer .clocks < 2 ^ 8 → Reads k (packed k)
 unpacked k r c =

@@ -13,7 +13,7 @@ use Rattle.alu.specs.declared.types.Check.the-variants.{Pass}
 use Rattle.alu.specs.declared.types.Checked.{Checked}
 use Rattle.calls.specs.declared.Found.{Found}
 use Rattle.calls.specs.declared.Found.the-variants.{Is, NoSize}
-use Rattle.alu.specs.Bits.{bit, digit}
+use Rattle.alu.specs.ConditionCodes.{flagsOf, ccrOf}
 use Rattle.alu.specs.Answers.{numberOf, classOf, refused}
 use Rattle.alu.specs.declared.shift_rotate.ShiftOp.the-variants.{Asl, Asr, Lsl, Lsr, Rol, Ror, Roxl, Roxr}
 use Rattle.alu.specs.declared.bit_manip.BitOp.the-variants.{Btst, Bset, Bclr, Bchg}
@@ -26,14 +26,7 @@ use Rattle.alu.specs.Bitops.{bitopOf}
 abbrev pub sizeOf : ℕ → Found
 sizeOf k = cond (eqb k 0) (Is Byte) (cond (eqb k 1) (Is Word) (cond (eqb k 2) (Is Long) NoSize))
 
--- the flags as the 68000 packs them: X 16, N 8, Z 4, V 2, C 1; bits above do not count
-abbrev pub flagsOf : ℕ → Flags
-flagsOf ccr = record { x = bit 4 ccr; n = bit 3 ccr; z = bit 2 ccr; v = bit 1 ccr; c = bit 0 ccr }
-
-abbrev pub ccrOf : Flags → ℕ
-ccrOf f = digit (f .x) * 16 + digit (f .n) * 8 + digit (f .z) * 4 + digit (f .v) * 2 + digit (f .c)
-
--- the answer: the result in bits 0 to 31, the flags in 32 to 36, the low 8 bits of the clock figure in 40 to 47 (all of it: `answer-fits`
+-- the answer: the result in bits 0 to 31, the flags in 32 to 36 (`ccrOf`), the low 8 bits of the clock figure in 40 to 47 (all of it: `answer-fits`
 -- of proofs/Unpacked), the refusal number in 48 and 49, CHK's class in 52 and 53; all other bits are 0
 abbrev pub packed : Checked → ℕ
 packed k =

@@ -1,10 +1,10 @@
 // The operations for Rust and C, packed: every argument and the answer are numbers, laid out as
 // `specs/Packed.antt` says. A number that names no operation or no size is refused with 2.
 ghost use mathlib.Core.Path.{_≡_};
-ghost use Prim.Native.Nat.{_*_, _^_, _<_, _≤_};
-ghost use Rattle.alu.specs.Bits.{digit};
+ghost use Prim.Native.Nat.{_^_, _<_, _≤_};
+ghost use Rattle.alu.specs.ConditionCodes.{flagsOf};
 ghost use Rattle.alu.specs.Answers.{numberOf, classOf};
-ghost use Rattle.calls.specs.Packed.{sizeOf, flagsOf, ccrOf, packed, plain, answerOf, callOf};
+ghost use Rattle.calls.specs.Packed.{sizeOf, packed, plain, answerOf, callOf};
 use alu::bit_manip::exec_bchg;
 use alu::bit_manip::exec_bclr;
 use alu::bit_manip::exec_bset;
@@ -38,10 +38,11 @@ use alu::shift_rotate::exec_roxr;
 use alu::types::Answer;
 use alu::types::Check;
 use alu::types::Checked;
-use alu::types::Flags;
 use alu::types::Size;
 use alu::types::Verdict;
+use alu::types::ccr;
 use alu::types::class;
+use alu::types::flags_of;
 use alu::types::number;
 use alu::types::refused;
 
@@ -61,39 +62,6 @@ fn size_of(number: u8) -> Found
         2 => Found::Is(Size::Long),
         _ => Found::NoSize,
     }
-}
-
-// The flags of a packed byte; its bits above X don't count.
-pub fn flags_of(ccr: u8) -> Flags
-    ensures { λ r. ⌜ r ≡ flagsOf ccr ⌝ }
-{
-    Flags {
-        x: ccr / 16 % 2 == 1,
-        n: ccr / 8 % 2 == 1,
-        z: ccr / 4 % 2 == 1,
-        v: ccr / 2 % 2 == 1,
-        c: ccr % 2 == 1,
-    }
-}
-
-// The weight of a flag that is set, else 0.
-fn weigh(flag: bool, weight: u64) -> u64
-    ensures { λ r. ⌜ (r ≡ digit flag * weight) × (r ≤ weight) ⌝ }
-{
-    if flag { weight } else { 0 }
-}
-
-fn ccr_of(f: Flags) -> u64
-    ensures { λ r. ⌜ (r ≡ ccrOf f) × (r ≤ 31) ⌝ }
-{
-    weigh(f.x, 16) + weigh(f.n, 8) + weigh(f.z, 4) + weigh(f.v, 2) + weigh(f.c, 1)
-}
-
-// The flags as a packed byte.
-pub fn ccr(f: Flags) -> u8
-    ensures { λ r. ⌜ r ≡ ccrOf f ⌝ }
-{
-    ccr_of(f) as u8
 }
 
 // The refusal number and CHK's class, with the bounds that keep the packed sum within 64 bits.
@@ -116,7 +84,7 @@ fn pack(a: Answer) -> u64
     let flags = a.flags;
     let verdict = a.verdict;
     a.result as u64
-        + ccr_of(flags) * 0x1_0000_0000
+        + ccr(flags) as u64 * 0x1_0000_0000
         + (a.clocks % 0x100) as u64 * 0x100_0000_0000
         + number_of(verdict) * 0x1_0000_0000_0000
 }

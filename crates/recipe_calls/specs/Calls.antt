@@ -4,6 +4,7 @@ use mathlib.Core.Bool.{Bool, cond}
 use mathlib.Core.List.{List, [], _∷_, _++_, map}
 use lib.ListN.{length, take, replicate}
 use Rattle.alu.specs.Bits.{digit}
+use Rattle.alu.specs.ConditionCodes.{flagsOf, ccrOf}
 use Rattle.step.specs.declared.registers.State.{State}
 use Rattle.step.specs.declared.forms.Step.{Step}
 use Rattle.step.specs.declared.runs.Ran.{Ran}
@@ -19,7 +20,6 @@ use Rattle.recipes.specs.Recipe.{numberOf, isNothing}
 use Rattle.recipes.specs.Reader.{readOf}
 use Rattle.recipes.specs.Listing.{over, blank, listed, translateOf}
 use Rattle.recipes.specs.Demand.{textRunOf}
-use Rattle.calls.specs.Packed.{flagsOf, ccrOf}
 use Rattle.recipe_calls.specs.Words.{firstOf, stepWord}
 
 -- ---- rows that are left

@@ -3,8 +3,9 @@
 use mathlib.Core.Path.{ap, _∙_}
 use borrow.Author.Needs.{needs}
 use Rattle.alu.specs.declared.types.Verdict.the-variants.{NoSuchSize}
+use Rattle.alu.specs.ConditionCodes.{flagsOf}
 use Rattle.alu.specs.Answers.{refused}
-use Rattle.calls.specs.Packed.{askedOf, packed, plain, flagsOf}
+use Rattle.calls.specs.Packed.{askedOf, packed, plain}
 use Rattle.calls.proofs.Called.{called}
 use Rattle.calls.proofs.alu_call.Statement.{statement}
 use Rattle.calls.proofs.alu_call.Tie as tie

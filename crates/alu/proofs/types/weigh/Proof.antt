@@ -1,8 +1,8 @@
 -- `weigh` meets its contract.
 -- Assumes nothing.
 use native.Mathlib.Omega.{arith}
-use Rattle.calls.proofs.weigh.Statement.{statement}
-use Rattle.calls.proofs.weigh.Tie as tie
+use Rattle.alu.proofs.types.weigh.Statement.{statement}
+use Rattle.alu.proofs.types.weigh.Tie as tie
 
 returns : tie.Need-returns
 returns c = rw (c .if1 .taken) (omega arith)
