@@ -22,7 +22,7 @@ pub struct State {
 pub(crate) fn read(registers: &[u32], r: u8) -> u32
     ensures { λ v. ⌜ v ≡ getD (now (registers .entry)) r 0 ⌝ }
 {
-    let i = wide(r);
+    let i = r as usize;
     if i < registers.len() { registers[i] } else { 0 }
 }
 
@@ -30,7 +30,7 @@ pub(crate) fn read(registers: &[u32], r: u8) -> u32
 pub(crate) fn write(registers: &mut [u32], r: u8, value: u32)
     ensures { λ _. ⌜ now (registers .exit) ≡ set (now (registers .entry)) r value ⌝ }
 {
-    let i = wide(r);
+    let i = r as usize;
     if i < registers.len() {
         registers[i] = value;
     }
@@ -45,10 +45,4 @@ pub(crate) fn merged(size: Size, old: u32, value: u32) -> u32
         Size::Word => old / 0x1_0000 * 0x1_0000 + value % 0x1_0000,
         Size::Long => value,
     }
-}
-
-fn wide(x: u8) -> usize
-    ensures { λ r. ⌜ r ≡ x ⌝ }
-{
-    x as usize
 }

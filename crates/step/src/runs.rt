@@ -1,7 +1,7 @@
 // A run of a listing of steps with a budget.
 ghost use mathlib.Core.Path.{_≡_};
 ghost use mathlib.Core.Bool.{true, cond};
-ghost use Prim.Native.Nat.{_<_, _≤_, _^_};
+ghost use Prim.Native.Nat.{_≤_};
 ghost use lib.Dec.{ltb};
 ghost use lib.ListN.{take};
 ghost use Rattle.step.specs.Perform.{performOf};
@@ -138,7 +138,7 @@ pub(crate) fn advance(
     let at = on.next;
     let left = on.left - 1;
     let next = at + 1;
-    let figure = wide(acted.clocks);
+    let figure = acted.clocks as u64;
     let clocks = on.clocks + figure;
     match outcome {
         Outcome::Done => arrive(len, left, next, clocks, flags),
@@ -194,10 +194,4 @@ fn lesser(a: usize, b: usize) -> usize
     ensures { λ r. ⌜ r ≡ cond (ltb a b) a b ⌝ }
 {
     if a < b { a } else { b }
-}
-
-fn wide(x: u32) -> u64
-    ensures { λ r. ⌜ (r ≡ x) × (r < 2 ^ 32) ⌝ }
-{
-    x as u64
 }

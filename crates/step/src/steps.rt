@@ -320,7 +320,7 @@ fn shift_count(d: &[u32; 8], c: Count) -> u32
     ensures { λ r. ⌜ ((a : List ℕ) (f : Flags) → r ≡ countValue (held (now (d .entry)) a f) 64 c) ⌝ }
 {
     match c {
-        Count::Small(k) => wide(k),
+        Count::Small(k) => k as u32,
         Count::Data(r) => read(d, r.0) % 64,
     }
 }
@@ -329,7 +329,7 @@ fn bit_number(d: &[u32; 8], c: Count) -> u32
     ensures { λ r. ⌜ ((a : List ℕ) (f : Flags) → r ≡ countValue (held (now (d .entry)) a f) 32 c) ⌝ }
 {
     match c {
-        Count::Small(k) => wide(k),
+        Count::Small(k) => k as u32,
         Count::Data(r) => read(d, r.0) % 32,
     }
 }
@@ -428,7 +428,7 @@ fn step_quick(d: &mut [u32; 8], flags: Flags, size: Size, op: QuickOp, k: u8, t:
         Ruling::Faulty(fault) => refused(fault, flags),
         Ruling::Sound => {
             let dst = read(d, t.0);
-            let answer = quick(op, size, wide(k), dst, flags);
+            let answer = quick(op, size, k as u32, dst, flags);
             write(d, t.0, merged(size, dst, answer.result));
             said(Outcome::Done, answer)
         }
@@ -443,7 +443,7 @@ fn step_quick_address(a: &mut [u32; 8], flags: Flags, size: Size, op: QuickOp, k
         Ruling::Faulty(fault) => refused(fault, flags),
         Ruling::Sound => {
             let dst = read(a, t.0);
-            let answer = quick_address(op, size, wide(k), dst, flags);
+            let answer = quick_address(op, size, k as u32, dst, flags);
             write(a, t.0, answer.result);
             said(Outcome::Done, answer)
         }
@@ -559,10 +559,4 @@ pub fn perform(state: State, step: Step) -> Performed
         state: State { d, a, flags },
         clocks: acted.clocks,
     }
-}
-
-fn wide(x: u8) -> u32
-    ensures { λ r. ⌜ r ≡ x ⌝ }
-{
-    x as u32
 }

@@ -12,8 +12,8 @@ returns c = cc
 
 returns-2 : tie.Need-returns-2
 returns-2 c =
-    let xs = now (c .before .before .before .args .registers) in
-    let h : length xs ≤ c .before .before .before .args .r = omega arith in sym (List·getD-eq-default xs 0 h)
+    let xs = now (c .before .args .registers) in
+    let h : length xs ≤ c .before .args .r = omega arith in sym (List·getD-eq-default xs 0 h)
 
 pub read-spec : {M : Type 1} → statement M
-read-spec = tie.close (tie.spec (search needs) (search needs) (search needs) returns returns-2)
+read-spec = tie.close (tie.spec (search needs) (search needs) returns returns-2)

@@ -1,3 +1,4 @@
+use native.Mathlib.Omega.{arith}
 use Rattle.step.proofs.Running.{advanced}
 use borrow.Author.Needs.{needs}
 use Rattle.step.proofs.runs.advance.Statement.{statement}
@@ -6,20 +7,17 @@ use Rattle.step.proofs.runs.advance.Tie as tie
 returns : tie.Need-returns
 returns c =
     let start = c .before .before .before .before .before .before .before .before .before .before .before in
-    let wide = c .before .before .before .before .wide .ensures in
-    advanced (start .args .len) (start .args .on) _ _ (c .before .before .before .before .before .before .before .perform-on .ensures) (rw (c .before .enum-told .given .1) (rw (wide .0) at (c .arrive .ensures))) (start .pre) (rw (wide .0) at (wide .1))
+    advanced (start .args .len) (start .args .on) _ _ (c .before .before .before .before .before .before .before .perform-on .ensures) (rw (c .before .enum-told .given .1) (c .arrive .ensures)) (start .pre) (omega arith)
 
 returns-2 : tie.Need-returns-2
 returns-2 c =
     let start = c .before .before .before .before .before .before .before .before .before .before .before .before in
-    let wide = c .before .before .before .before .before .wide .ensures in
-    advanced (start .args .len) (start .args .on) _ _ (c .before .before .before .before .before .before .before .before .perform-on .ensures) (rw (c .before .before .outcome .given .1) (rw (wide .0) at (c .halt .ensures))) (start .pre) (rw (wide .0) at (wide .1))
+    advanced (start .args .len) (start .args .on) _ _ (c .before .before .before .before .before .before .before .before .perform-on .ensures) (rw (c .before .before .outcome .given .1) (c .halt .ensures)) (start .pre) (omega arith)
 
 returns-3 : tie.Need-returns-3
 returns-3 c =
     let start = c .before .before .before .before .before .before .before .before .before .before .before .before in
-    let wide = c .before .before .before .before .before .wide .ensures in
-    advanced (start .args .len) (start .args .on) _ _ (c .before .before .before .before .before .before .before .before .perform-on .ensures) (rw (c .before .before .outcome2 .given .1) (c .halt2 .ensures)) (start .pre) (rw (wide .0) at (wide .1))
+    advanced (start .args .len) (start .args .on) _ _ (c .before .before .before .before .before .before .before .before .perform-on .ensures) (rw (c .before .before .outcome2 .given .1) (c .halt2 .ensures)) (start .pre) (omega arith)
 
 pub advance-spec : {M : Type 1} → statement M
 advance-spec =

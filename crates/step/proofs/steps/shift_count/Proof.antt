@@ -3,7 +3,7 @@ use Rattle.step.proofs.steps.shift_count.Statement.{statement}
 use Rattle.step.proofs.steps.shift_count.Tie as tie
 
 returns : tie.Need-returns
-returns c a f = simp (c .wide .ensures, c .before .before .c .given .1)
+returns c a f = simp (c .before .c .given .1)
 
 returns-2 : tie.Need-returns-2
 returns-2 c a f = simp (c .read .ensures, c .before .before .before .c2 .given .1)
