@@ -35,6 +35,7 @@ use Rattle.step.proofs.steps.number.Reads as number
 use Rattle.step.proofs.steps.class.Reads as class
 use Rattle.step.proofs.steps.perform.Reads as perform
 use Rattle.step.proofs.runs.run_array.Reads as run-array
+use Rattle.step.proofs.runs.lesser.Reads as lesser
 use Rattle.step.proofs.lent.perform_in as perform-in
 use Rattle.step.proofs.lent.run as run
 use Rattle.step.proofs.lent.fetch as fetch
@@ -48,7 +49,8 @@ determined =
     fixed number.Learnt (one-equation _) ∷
     fixed class.Learnt (one-equation _) ∷
     fixed perform.Learnt (one-equation _) ∷
-    fixed run-array.Learnt (one-equation _) ∷ []
+    fixed run-array.Learnt (one-equation _) ∷
+    fixed lesser.Learnt (one-equation _) ∷ []
 
 -- `whole r ws`: of the result r and of the last values ws behind all references that the function may write through
 module _ {M : Type 1} (𝓤 : URA M) (T : Ended) (κs : Lfts (T .signature .lifetimes)) (a : Args (T .signature) κs) {Whole : Type 0}

@@ -2,13 +2,13 @@
 use mathlib.Core.Path.{_≡_, refl, sym, _∙_, ap, ap₂, subst⁻¹}
 use mathlib.Core.Bool.{Bool, true, false, cond}
 use mathlib.Core.List.{List}
-use Prim.Native.Nat.{ℕ, zero, suc, _+_, _-_, _*_, _<_, _≤_, _^_}
+use Prim.Native.Nat.{ℕ, zero, suc, _+_, _-_, _*_, _<_, _≤_, _^_, min}
 use native.Mathlib.Omega.{arith}
 use native.Mathlib.Numerals.{add-one}
 use native.Mathlib.Nat.{add-zero}
 use lib.Dec.{ltb, leb}
-use lib.ListN.{length, take, getD}
-use lib.Seq.{getD-take, length-take-le, take-all}
+use lib.ListN.{length, take, getD, length-take}
+use lib.Seq.{getD-take}
 use borrow.Author.Tests.{ltb-true, ltb-false, leb-true, leb-false, lt-ltb}
 use Rattle.alu.specs.declared.types.Size.the-variants.{Byte}
 use Rattle.alu.specs.declared.types.Flags.{Flags}
@@ -174,26 +174,15 @@ turn-less len on p d a r g w adv =
 abbrev pub nop : Step
 nop = record { size = Byte; form = Two Add (record { 0 = 0 }) (record { 0 = 0 }) }
 
-lesser-by : (n m : ℕ) (t : Bool) → ltb n m ≡ t → (cond (ltb n m) n m ≤ n) × (cond (ltb n m) n m ≤ m)
-lesser-by n m true p = rw p (let h = ltb-true n m p in (omega arith, omega arith))
-lesser-by n m false p = rw p (let h = ltb-false n m p in (omega arith, omega arith))
-
-pub lesser-le : (n m : ℕ) → (cond (ltb n m) n m ≤ n) × (cond (ltb n m) n m ≤ m)
-lesser-le n m = lesser-by n m (ltb n m) refl
-
-taken-by : (l : List Step) (n m : ℕ) → length l ≡ m → (t : Bool) → ltb n m ≡ t → length (take n l) ≡ cond (ltb n m) n m
-taken-by l n m e true p = rw p (length-take-le n l (omega (arith, ltb-true n m p)))
-taken-by l n m e false p = rw p (ap length (take-all n l (omega (arith, ltb-false n m p))) ∙ e)
-
-module _ (f : State → Step → Performed) (l : List Step) (n m len first : ℕ) (e : length l ≡ m) (k : len ≡ cond (ltb n m) n m) where
+module _ (f : State → Step → Performed) (l : List Step) (n m len first : ℕ) (e : length l ≡ m) (k : len ≡ min n m) where
   whole : length (take n l) ≡ len
-  whole = taken-by l n m e (ltb n m) refl ∙ sym k
+  whole = length-take n l ∙ (ap (min n) e ∙ sym k)
 
   -- a step of the array's doesn't change the answer
   pub turned-in : (d a d′ a′ : List ℕ) (on r : Course) → on .going ≡ true → on .left ≤ first → Ready len on
       → Advanced len on (f (held d a (on .flags)) (getD l (on .next) nop)) d′ a′ r → answerOf f (take n l) first d′ a′ r ≡ answerOf f (take n l) first d a on
   turned-in d a d′ a′ on r g h w adv =
-      let same : getD (take n l) (on .next) nop ≡ getD l (on .next) nop = getD-take n l (on .next) nop (omega (arith, w .inside, w .some, k, lesser-le n m .0)) in
+      let same : getD (take n l) (on .next) nop ≡ getD l (on .next) nop = getD-take n l (on .next) nop (omega (arith, w .inside, w .some, k)) in
       turn-answer f (take n l) nop first d a d′ a′ on r g h
       (subst⁻¹ (λ (i : ℕ). Ready i on) whole w)
       (subst⁻¹ (λ (i : ℕ). Advanced i on (f (held d a (on .flags)) (getD (take n l) (on .next) nop)) d′ a′ r) whole

@@ -1,8 +1,7 @@
 // A run of a listing of steps with a budget.
 ghost use mathlib.Core.Path.{_≡_};
-ghost use mathlib.Core.Bool.{true, cond};
-ghost use Prim.Native.Nat.{_≤_};
-ghost use lib.Dec.{ltb};
+ghost use mathlib.Core.Bool.{true};
+ghost use Prim.Native.Nat.{_≤_, min};
 ghost use lib.ListN.{take};
 ghost use Rattle.step.specs.Perform.{performOf};
 ghost use Rattle.step.specs.Run.{runOf};
@@ -190,8 +189,9 @@ pub fn run_array(
     ended(d, a, first, on)
 }
 
-fn lesser(a: usize, b: usize) -> usize
-    ensures { λ r. ⌜ r ≡ cond (ltb a b) a b ⌝ }
+// The lesser of two numbers, as of a count and of the slots that there are.
+pub fn lesser(a: usize, b: usize) -> usize
+    ensures { λ r. ⌜ r ≡ min a b ⌝ }
 {
     if a < b { a } else { b }
 }

@@ -6,7 +6,7 @@ use lib.ListN.{length, take}
 use Rattle.step.specs.Perform.{performOf}
 use Rattle.step.specs.Course.{Ready}
 use Rattle.step.specs.Run.{arraySlots}
-use Rattle.step.proofs.Running.{answerOf, leftOf, turn-less, lesser-le, turned-in, ended-in}
+use Rattle.step.proofs.Running.{answerOf, leftOf, turn-less, turned-in, ended-in}
 use borrow.Author.Needs.{needs}
 use Rattle.step.proofs.runs.run_array.Statement.{statement}
 use Rattle.step.proofs.runs.run_array.Tie as tie
@@ -26,7 +26,7 @@ ready : (c : tie.In-loop Inv-loop μ-loop) → Ready (c .before .before .before 
 ready c = c .before .loop .inv .1 .1 .1 (goes c)
 
 few : (c : tie.In-loop Inv-loop μ-loop) → c .before .before .before .before .before .before .lesser .result ≤ arraySlots
-few c = omega (arith, lesser-le (c .before .before .before .before .before .before .before .args .count) arraySlots .1, c .before .before .before .before .before .before .lesser .ensures)
+few c = omega (arith, c .before .before .before .before .before .before .lesser .ensures)
 
 -- said here, since omega looks at no more than 128 records of a longer way
 whole : (c : tie.In-loop Inv-loop μ-loop) → length (c .before .before .before .before .before .before .before .args .t1) ≡ arraySlots
