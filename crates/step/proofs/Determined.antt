@@ -35,6 +35,8 @@ use Rattle.step.proofs.steps.number.Reads as number
 use Rattle.step.proofs.steps.class.Reads as class
 use Rattle.step.proofs.steps.perform.Reads as perform
 use Rattle.step.proofs.runs.run_array.Reads as run-array
+use Rattle.step.proofs.runs.begun.Reads as begun
+use Rattle.step.proofs.runs.resumed.Reads as resumed
 use Rattle.step.proofs.runs.lesser.Reads as lesser
 use Rattle.step.proofs.lent.perform_in as perform-in
 use Rattle.step.proofs.lent.run as run
@@ -50,6 +52,8 @@ determined =
     fixed class.Learnt (one-equation _) ∷
     fixed perform.Learnt (one-equation _) ∷
     fixed run-array.Learnt (one-equation _) ∷
+    fixed begun.Learnt (one-equation _) ∷
+    fixed resumed.Learnt (one-equation _) ∷
     fixed lesser.Learnt (one-equation _) ∷ []
 
 -- `whole r ws`: of the result r and of the last values ws behind all references that the function may write through

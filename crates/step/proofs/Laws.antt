@@ -19,8 +19,8 @@ use Rattle.step.specs.declared.steps.Performed.{Performed}
 use Rattle.step.specs.declared.runs.End.{End}
 use Rattle.step.specs.declared.runs.End.the-variants as End
 use Rattle.step.specs.declared.runs.Ran.{Ran}
-use Rattle.step.specs.Run.{Spot, here, atEnd, pastEnd, spotOf, ends, counted, followed, met, runOf}
-use Rattle.step.specs.Parts.{after, goesOn, runInParts, PartsGo, total}
+use Rattle.step.specs.Run.{Spot, here, atEnd, pastEnd, spotOf, ends, counted, after, followed, met, runOf}
+use Rattle.step.specs.Parts.{goesOn, runInParts, PartsGo, total}
 
 pub no : {A : Type 0} → false ≡ true → A
 no e = let z : _≡_ {A = ℕ} 0 1 = cc in absurd (omega arith)

@@ -21,8 +21,8 @@ use Rattle.step.specs.declared.steps.Performed.{Performed}
 use Rattle.step.specs.declared.runs.End.{End}
 use Rattle.step.specs.declared.runs.End.the-variants as End
 use Rattle.step.specs.declared.runs.Ran.{Ran}
-use Rattle.step.specs.Run.{Spot, here, atEnd, pastEnd, spotOf, ends, counted, followed, runOf}
-use Rattle.step.specs.Parts.{after, goesOn, runInParts, PartsGo, total}
+use Rattle.step.specs.Run.{Spot, here, atEnd, pastEnd, spotOf, ends, counted, after, followed, runOf}
+use Rattle.step.specs.Parts.{goesOn, runInParts, PartsGo, total}
 use Rattle.step.proofs.Laws.{after-none, run-end, run-none, run-step, run-in-parts, parts-go}
 use Rattle.step.proofs.Promises.{Alu, Legal, applied, Gives, Steps}
 

@@ -3,6 +3,7 @@ pub mod Laws
 pub mod Sound
 pub mod Promises
 pub mod Leading
+pub mod Resumed
 mod Running
 mod Stepping
 pub mod Numbers

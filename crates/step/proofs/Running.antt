@@ -22,8 +22,7 @@ use Rattle.step.specs.declared.steps.Performed.{Performed}
 use Rattle.step.specs.declared.runs.End.the-variants as End
 use Rattle.step.specs.declared.runs.Ran.{Ran}
 use Rattle.step.specs.declared.runs.Course.{Course}
-use Rattle.step.specs.Run.{counted, followed, runOf}
-use Rattle.step.specs.Parts.{after}
+use Rattle.step.specs.Run.{counted, after, followed, runOf}
 use Rattle.step.specs.Course.{held, arriveOf, mostOf, beginOf, turned, Advanced, ranOf, Ready}
 use Rattle.step.proofs.Laws.{no, spot-here, spot-end, spot-past, after-none, run-past, run-end, run-none, run-step, run-enough}
 

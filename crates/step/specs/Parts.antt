@@ -10,11 +10,7 @@ use Rattle.step.specs.declared.steps.Performed.{Performed}
 use Rattle.step.specs.declared.runs.End.{End}
 use Rattle.step.specs.declared.runs.End.the-variants as End
 use Rattle.step.specs.declared.runs.Ran.{Ran}
-use Rattle.step.specs.Run.{runOf}
-
--- n steps and c clocks, and then a run
-abbrev pub after : (n c : ℕ) → Ran → Ran
-after n c r = record { end = r .end; state = r .state; next = r .next; steps = n + r .steps; clocks = c + r .clocks }
+use Rattle.step.specs.Run.{after, runOf}
 
 -- neither trapped nor refused
 abbrev pub goesOn : End → Bool

@@ -1,6 +1,6 @@
 -- A run of a listing: document 01, "Steps and runs". It is defined by recursion on the budget, from a place, over any step function f. The tests
 -- stand in document 01's order: past the end; at the end; the budget spent; then the step. Assumes nothing.
-use Prim.Native.Nat.{ℕ, zero, suc, _+_}
+use Prim.Native.Nat.{ℕ, zero, suc, _+_, _%_, _^_}
 use mathlib.Core.List.{List, [], _∷_}
 use Rattle.step.specs.declared.registers.State.{State}
 use Rattle.step.specs.declared.forms.Step.{Step}
@@ -38,6 +38,10 @@ ends e s p = record { end = e; state = s; next = p; steps = 0; clocks = 0 }
 abbrev pub counted : (c : ℕ) → Ran → Ran
 counted c r = record { end = r .end; state = r .state; next = r .next; steps = suc (r .steps); clocks = c + r .clocks }
 
+-- n steps and c clocks, and then a run
+abbrev pub after : (n c : ℕ) → Ran → Ran
+after n c r = record { end = r .end; state = r .state; next = r .next; steps = n + r .steps; clocks = c + r .clocks }
+
 -- The step at place p was performed as o; its outcome stands first, to go by its cases. Done: it is counted, and the run goes on, from o's state and
 -- the place after p. A trap is counted and ends the run; the next place is after it. A refused step is not counted and is the next place.
 abbrev pub followed : Outcome → Performed → (p : ℕ) → (on : State → ℕ → Ran) → Ran
@@ -56,6 +60,15 @@ module _ (f : State → Step → Performed) (l : List Step) where
   unfoldable pub runOf : State → (p b : ℕ) → Ran
   runOf s p zero = met (spotOf l p) s p (λ k. ends End.Budget s p)
   runOf s p (suc b) = met (spotOf l p) s p (λ k. followed (f s k .outcome) (f s k) p (λ t q. runOf t q b))
+
+-- steps modulo 2 ^ 32 and clocks modulo 2 ^ 64: the widths of the code's numbers
+abbrev pub wrapped : Ran → Ran
+wrapped r = record { end = r .end; state = r .state; next = r .next; steps = r .steps % 2 ^ 32; clocks = r .clocks % 2 ^ 64 }
+
+-- A run taken up again as r left it, from its state and its next place, with the budget b: steps and clocks add. Where r is itself a run and the budgets
+-- are below 2 ^ 32 together, nothing wraps, and the two are one run: `resumed-split` of proofs/Resumed
+abbrev pub resumedOf : (State → Step → Performed) → List Step → Ran → (b : ℕ) → Ran
+resumedOf f l r b = wrapped (after (r .steps) (r .clocks) (runOf f l (r .state) (r .next) b))
 
 -- How a run ended, by numbers: which of the four ends it is, the class of its trap or document 01's refusal number, and the place of either; 0 where
 -- there is none. (0 to 3 for the four ends is our own numbering, document 01 has none)

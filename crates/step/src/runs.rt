@@ -4,7 +4,8 @@ ghost use mathlib.Core.Bool.{true};
 ghost use Prim.Native.Nat.{_≤_, min};
 ghost use lib.ListN.{take};
 ghost use Rattle.step.specs.Perform.{performOf};
-ghost use Rattle.step.specs.Run.{runOf};
+ghost use Rattle.step.specs.declared.runs.End.the-variants as End;
+ghost use Rattle.step.specs.Run.{ends, runOf, resumedOf};
 ghost use Rattle.step.specs.Course.{held, courseOf, halted, endAt, arriveOf, mostOf, beginOf, Advanced, ranOf, Ready};
 use super::forms::Step;
 use super::registers::State;
@@ -187,6 +188,39 @@ pub fn run_array(
         going = on.going;
     }
     ended(d, a, first, on)
+}
+
+// A run before its first step.
+pub fn begun(state: State, place: usize) -> Ran
+    ensures { λ r. ⌜ r ≡ ends End.Budget state place ⌝ }
+{
+    Ran {
+        end: End::Budget,
+        state,
+        next: place,
+        steps: 0,
+        clocks: 0,
+    }
+}
+
+// A run taken up again where it halted, with a budget of its own: steps and clocks add. It takes any `Ran`, so that a
+// sum may wrap; no run's does.
+pub fn resumed(listing: [Step; SLOTS], count: usize, ran: Ran, budget: u32) -> Ran
+    ensures { λ r. ⌜ r ≡ resumedOf performOf (take count listing) ran budget ⌝ }
+{
+    let halted = ran.state;
+    let more = run_array(listing, count, halted, ran.next, budget);
+    let end = more.end;
+    let state = more.state;
+    let steps = std::num::wrapping_add_u32(ran.steps, more.steps);
+    let clocks = std::num::wrapping_add_u64(ran.clocks, more.clocks);
+    Ran {
+        end,
+        state,
+        next: more.next,
+        steps,
+        clocks,
+    }
 }
 
 // The lesser of two numbers, as of a count and of the slots that there are.
