@@ -1,0 +1,4 @@
+pub mod Texts
+pub mod Writing
+pub mod Values
+pub mod Determined

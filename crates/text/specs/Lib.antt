@@ -1,0 +1,3 @@
+-- In the order to be read.
+pub mod Text
+pub mod Wrote
