@@ -13,13 +13,11 @@ use native.Mathlib.Nat.{le-of-suc-le-suc, not-suc-le-zero, mod-eq-of-lt, mod-lt,
 use native.Mathlib.Decide.{decLe}
 use native.Mathlib.Numerals.{add-one, sub-one}
 use native.Mathlib.Omega.{arith}
-use borrow.Author.Tests.{lt-ltb, le-ltb, ltb-true, ltb-false}
+use borrow.Author.Tests.{lt-ltb, le-ltb, ltb-true}
 use lib.Dec.{ltb, lit<}
 use lib.ListN.{length, getD, set, take, drop, length-append}
 use lib.Seq.{take-suc, set-split, drop-at, length-take-le, append-snoc}
 use Rattle.io.specs.Digits.{digits, Fewest}
-use Rattle.text.specs.declared.types.Digit.{Digit}
-use Rattle.text.specs.declared.types.Digit.the-variants as Digit
 use Rattle.text.specs.declared.types.Decimal.{Decimal}
 use Rattle.text.specs.declared.types.Decimal.the-variants as Decimal
 use Rattle.text.specs.declared.types.Hex.{Hex}

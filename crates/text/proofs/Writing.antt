@@ -5,7 +5,7 @@
 --     wrote-counts    the next place is a count of the slice
 --     wrote-whole     a text for which there is room stands at the front, whole
 --     wrote-all       and the next place is its length
-use Prim.Native.Nat.{ℕ, zero, suc, _+_, _-_, _≤_, _<_, min, max}
+use Prim.Native.Nat.{ℕ, suc, _+_, _-_, _≤_, min, max}
 use mathlib.Core.List.{List, [], _∷_, _++_, append-nil, append-assoc}
 use mathlib.Core.Path.{_≡_, refl, sym, ap, ap₂, _∙_}
 use native.Mathlib.Nat.{add-zero, add-suc, suc-add}

@@ -2,14 +2,14 @@
 -- writing. Assumes nothing.
 use Prim.Native.Nat.{_<_, _≤_, _-_, _^_}
 use mathlib.Core.Bool.{cond}
-use mathlib.Core.Path.{_≡_, refl, sym, _∙_}
+use mathlib.Core.Path.{_≡_, refl, _∙_}
 use native.Mathlib.Nat.{mod-lt}
 use lib.Dec.{lit<, lit≤}
 use borrow.Author.Needs.{needs}
 use lib.ListN.{length, take}
 use lib.Seq.{take-all}
 use Rattle.text.specs.declared.types.Decimal.the-variants.{Is, Bad}
-use Rattle.text.specs.Text.{sameBytes, valueFrom, valueOf, decimalOf, decimalRead}
+use Rattle.text.specs.Text.{valueFrom, valueOf, decimalRead}
 use Rattle.text.proofs.Values.{value-turn, decimal-text, decimal-read}
 use Rattle.text.proofs.numbers.decimal_of.Statement.{statement}
 use Rattle.text.proofs.numbers.decimal_of.Tie as tie

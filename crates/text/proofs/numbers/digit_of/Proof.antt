@@ -7,11 +7,11 @@ use Rattle.text.proofs.numbers.digit_of.Tie as tie
 
 returns : tie.Need-returns
 unfolding digitOf
-returns c = rw (ne-eqb _ _ (c .if1 .taken))
+returns c = rw (ne-eqb _ 1 (c .if1 .taken))
 
 returns-2 : tie.Need-returns-2
 unfolding digitOf
-returns-2 c = rw (eq-eqb _ _ (c .before .before .if1 .left)) (c .digit .ensures)
+returns-2 c = rw (eq-eqb _ 1 (c .before .before .if1 .left)) (c .digit .ensures)
 
 pub digit-of-spec : {M : Type 1} → statement M
 digit-of-spec = tie.close (tie.spec returns (search needs) (search needs) returns-2)

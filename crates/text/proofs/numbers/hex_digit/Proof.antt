@@ -1,5 +1,4 @@
 -- `text::numbers::hex_digit` meets its contract: each return has the tests of `hexDigit` that led there. Assumes nothing.
-use mathlib.Core.Path.{_∙_}
 use borrow.Author.Needs.{needs}
 use borrow.Author.Tests.{lt-ltb, le-ltb}
 use Rattle.text.specs.Text.{hexDigit}

@@ -1,10 +1,10 @@
 -- `text::parts::first` meets its contract: `bytes` finds the byte in the range from 0 to the length, which is the whole list.
 -- Assumes nothing.
-use mathlib.Core.Path.{_≡_, _∙_}
+use mathlib.Core.Path.{_∙_}
 use native.Mathlib.Nat.{zero-add}
 use lib.Seq.{take-length}
 use borrow.Author.Needs.{needs}
-use Rattle.bytes.specs.Bytes.{indexOf, slice}
+use Rattle.bytes.specs.Bytes.{slice}
 use Rattle.text.proofs.Texts.{index-before}
 use Rattle.text.proofs.parts.first.Statement.{statement}
 use Rattle.text.proofs.parts.first.Tie as tie
