@@ -5,7 +5,6 @@
 mod carry;
 mod course;
 mod ending;
-mod input;
 mod lines;
 mod numbers;
 mod pen;

@@ -1,11 +1,11 @@
-// Standard input, read as the program `recipe` reads it.
+// Standard input, as the programs read it.
 use libc::STDIN_FILENO;
 ghost use Prim.Native.Nat.{_≤_};
 ghost use lib.ListN.{length};
 ghost use Rattle.io.specs.Counts.{Counts};
 
 // So many bytes were read; `ok` is false where a read failed.
-pub(crate) struct Input {
+pub struct Input {
     pub n: usize,
     pub ok: bool,
 }
@@ -17,8 +17,8 @@ fn read_some(text: &mut [u8], at: usize) -> isize
     libc::read(STDIN_FILENO, &mut text[at..])
 }
 
-// Reads until `text` is full or the input ends, in as many pieces as it comes.
-pub(crate) fn read_text(text: &mut [u8]) -> Input
+// Reads until `text` is full or the input ends, in as many pieces as it comes. What is read no contract can say.
+pub fn read_text(text: &mut [u8]) -> Input
     ensures { λ r. ⌜ Counts (r .n) (now (text .exit)) ⌝ }
 {
     let mut at = 0;
