@@ -4,14 +4,9 @@ ghost use Prim.Native.Nat.{_≤_};
 ghost use lib.ListN.{length};
 ghost use Rattle.io.specs.Counts.{Counts};
 use alu::types::Flags;
-
-pub(crate) const TAB: u8 = 9;
-
-pub(crate) const NEWLINE: u8 = 10;
-
-pub(crate) const BLANK: u8 = 32;
-
-const HEX: [u8; 16] = *b"0123456789ABCDEF";
+pub(crate) use text::types::BLANK;
+use text::types::NEWLINE;
+pub(crate) use text::types::TAB;
 
 // Room for a line: the longest, which says how to go on, has less than 250 bytes.
 const LINE_ROOM: usize = 256;
@@ -113,15 +108,7 @@ pub(crate) fn put_count(pen: Pen, before: &[u8], n: u64, what: &[u8]) -> Pen {
 
 // Eight digits.
 pub(crate) fn put_hex(pen: Pen, value: u32) -> Pen {
-    let mut digits = [0u8; 8];
-    let mut rest = value;
-    let mut i = 8;
-    while 0 < i {
-        let digit = rest as usize % 16;
-        i -= 1;
-        digits[i] = HEX[digit];
-        rest /= 16;
-    }
+    let digits = text::numbers::hex(value);
     put(pen, &digits)
 }
 
