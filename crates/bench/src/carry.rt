@@ -3,13 +3,13 @@
 ghost use Prim.Native.Nat.{_≤_};
 use crate::course::one_more;
 use crate::lines::line_at;
-use crate::lines::target;
 use crate::numbers::count_of;
 use crate::pen::Pen;
 use crate::pen::at_start;
 use crate::pen::put;
 use crate::pen::put_decimal;
 use crate::pen::put_line;
+use recipes::lines::target;
 use recipes::types::LINES_MAX;
 use recipes::types::Line;
 use recipes::types::Listing;
@@ -35,7 +35,7 @@ fn carries(verb: Verb) -> bool {
 // Which lines of a recipe, other than its last, were ended by one of the steps and left a carry.
 pub(crate) fn carried(recipe: Recipe, made: Listing, start: Ran, steps: u32) -> [bool; LINES_MAX] {
     let lines = recipe.lines;
-    let mut told = [false; LINES_MAX];
+    let mut marked = [false; LINES_MAX];
     let mut ran = start;
     let mut left = steps;
     while 0 < left {
@@ -47,17 +47,17 @@ pub(crate) fn carried(recipe: Recipe, made: Listing, start: Ran, steps: u32) -> 
         let flags = state.flags;
         let ended = line_at(recipe, after.next) != k;
         if ended & (k + 1 < recipe.count) {
-            told[k] = flags.x & carries(verb);
+            marked[k] = flags.x & carries(verb);
         }
         ran = after;
         left -= 1;
     }
-    told
+    marked
 }
 
-// Whether a line is told, and changes this number.
-fn is_of(line: Line, told: bool, number: u8) -> bool {
-    told & (target(line) == number)
+// Whether a line is marked, and changes this number.
+fn is_of(line: Line, marked: bool, number: u8) -> bool {
+    marked & (target(line) == number)
 }
 
 fn one_if(so: bool) -> u64
@@ -66,25 +66,25 @@ fn one_if(so: bool) -> u64
     if so { 1 } else { 0 }
 }
 
-fn count_at(recipe: Recipe, told: [bool; LINES_MAX], number: u8) -> u64 {
+fn count_at(recipe: Recipe, marked: [bool; LINES_MAX], number: u8) -> u64 {
     let lines = recipe.lines;
     let mut count = 0;
     let mut k = 0;
     while k < LINES_MAX {
-        count += one_if(is_of(lines[k], told[k], number));
+        count += one_if(is_of(lines[k], marked[k], number));
         k += 1;
     }
     count
 }
 
 // The text lines, behind one another: line k, from 0, is text line k + 2.
-fn put_lines(pen: Pen, recipe: Recipe, told: [bool; LINES_MAX], number: u8) -> Pen {
+fn put_lines(pen: Pen, recipe: Recipe, marked: [bool; LINES_MAX], number: u8) -> Pen {
     let lines = recipe.lines;
     let mut next = pen;
     let mut some = false;
     let mut k = 0;
     while k < LINES_MAX {
-        if is_of(lines[k], told[k], number) {
+        if is_of(lines[k], marked[k], number) {
             if some {
                 next = put(next, b",");
             }
@@ -97,12 +97,12 @@ fn put_lines(pen: Pen, recipe: Recipe, told: [bool; LINES_MAX], number: u8) -> P
     next
 }
 
-fn carry_line(recipe: Recipe, told: [bool; LINES_MAX], number: u8, many: bool) -> Pen {
+fn carry_line(recipe: Recipe, marked: [bool; LINES_MAX], number: u8, many: bool) -> Pen {
     let next = put(at_start(), b"carry out of number ");
     let next = put_decimal(next, number as u64);
     let next = put(next, b" at line");
     let next = if many { put(next, b"s") } else { next };
-    put_lines(next, recipe, told, number)
+    put_lines(next, recipe, marked, number)
 }
 
 // The line of a number, where a carry went out of it.
@@ -110,14 +110,14 @@ fn put_carry(
     out: &mut [u8],
     at: usize,
     recipe: Recipe,
-    told: [bool; LINES_MAX],
+    marked: [bool; LINES_MAX],
     number: u8,
 ) -> usize {
-    let count = count_at(recipe, told, number);
+    let count = count_at(recipe, marked, number);
     if count == 0 {
         return at;
     }
-    put_line(out, at, carry_line(recipe, told, number, 1 < count))
+    put_line(out, at, carry_line(recipe, marked, number, 1 < count))
 }
 
 // The lines of all numbers.
@@ -125,12 +125,12 @@ pub(crate) fn put_carries(
     out: &mut [u8],
     at: usize,
     recipe: Recipe,
-    told: [bool; LINES_MAX],
+    marked: [bool; LINES_MAX],
 ) -> usize {
     let mut next = at;
     let mut number = 0;
     while number < count_of(recipe.width) {
-        next = put_carry(out, next, recipe, told, number);
+        next = put_carry(out, next, recipe, marked, number);
         number += 1;
     }
     next

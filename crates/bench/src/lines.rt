@@ -1,8 +1,7 @@
-// Which line of a recipe a step comes from, and which number the line changes.
+// Which line of a recipe a step comes from.
 ghost use Prim.Native.Nat.{_<_, _≤_};
 ghost use Rattle.recipes.specs.Recipe.{linesMax};
 use recipes::types::LINES_MAX;
-use recipes::types::Line;
 use recipes::types::Recipe;
 use recipes::types::Verb;
 
@@ -37,20 +36,4 @@ pub(crate) fn line_at(recipe: Recipe, place: usize) -> usize
         k += 1;
     }
     k
-}
-
-// The number that a line changes.
-pub(crate) fn target(line: Line) -> u8 {
-    let verb = line.verb;
-    match verb {
-        Verb::Clear => line.a,
-        Verb::Copy => line.b,
-        Verb::Add => line.b,
-        Verb::Sub => line.b,
-        Verb::Neg => line.a,
-        Verb::Not => line.a,
-        Verb::Halve => line.a,
-        Verb::Down => line.a,
-        Verb::Up => line.a,
-    }
 }

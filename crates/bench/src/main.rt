@@ -20,7 +20,7 @@ use recipes::reader::read;
 use recipes::translator::translate_array;
 use recipes::types::Recipe;
 use recipes::types::TEXT_MAX;
-use recipes::types::number;
+use recipes::types::is_nothing;
 use words::Asked;
 use words::read_words;
 
@@ -41,10 +41,10 @@ const ROOM: usize = 65536;
 // The whole answer to a text.
 fn answer(out: &mut [u8], asked: Asked, text: &[u8]) -> usize {
     let reading = read(text);
-    let refusal = reading.refusal;
+    let refused = reading.refused;
     let recipe = reading.recipe;
-    if number(refusal) != 0 {
-        return print_refusal(refusal, reading.line, out);
+    if !is_nothing(refused) {
+        return print_refusal(refused, out);
     }
     put_run(out, asked, text, recipe)
 }

@@ -7,7 +7,7 @@ use crate::pen::put_byte;
 use crate::pen::put_decimal;
 use crate::pen::put_hex;
 
-// A word divided by 10, with what the higher words left.
+// A long word divided by 10, with what the higher ones left.
 struct Share {
     quotient: u32,
     rest: u64,
@@ -17,12 +17,6 @@ struct Share {
 struct Tenth {
     quotient: [u32; 4],
     digit: u8,
-}
-
-fn wide(x: u8) -> usize
-    ensures { λ r. ⌜ r < 2 ^ 8 ⌝ }
-{
-    x as usize
 }
 
 // How many numbers there are at a width of 1, 2 or 4.
@@ -43,33 +37,33 @@ fn lowest_of(width: u8, k: u8) -> usize
     ensures { λ r. ⌜ r < 4 * 2 ^ 8 ⌝ }
 {
     if width == 1 {
-        wide(k)
+        k as usize
     } else if width == 2 {
-        2 * wide(k)
+        2 * k as usize
     } else {
-        4 * wide(k)
+        4 * k as usize
     }
 }
 
-// Word i of the number from register `low` on; 0 past its highest.
-fn word_of(width: u8, d: [u32; 8], low: usize, i: u8) -> u32
+// Long word i of the number from register `low` on; 0 past its highest.
+fn long_of(width: u8, d: [u32; 8], low: usize, i: u8) -> u32
     requires { ⌜ low < 4 * 2 ^ 8 ⌝ }
 {
-    let r = low + wide(i);
+    let r = low + i as usize;
     if width <= i {
         return 0;
     }
     if r < 8 { d[r] } else { 0 }
 }
 
-// The words of number k, the lowest first.
-fn words_of(width: u8, d: [u32; 8], k: u8) -> [u32; 4] {
+// The long words of number k, the lowest first.
+fn longs_of(width: u8, d: [u32; 8], k: u8) -> [u32; 4] {
     let low = lowest_of(width, k);
     [
-        word_of(width, d, low, 0),
-        word_of(width, d, low, 1),
-        word_of(width, d, low, 2),
-        word_of(width, d, low, 3),
+        long_of(width, d, low, 0),
+        long_of(width, d, low, 1),
+        long_of(width, d, low, 2),
+        long_of(width, d, low, 3),
     ]
 }
 
@@ -81,42 +75,42 @@ pub(crate) fn put_names(pen: Pen, width: u8, k: u8) -> Pen {
     while 0 < i {
         i -= 1;
         next = put(next, b" D");
-        next = put_decimal(next, (low + wide(i)) as u64);
+        next = put_decimal(next, (low + i as usize) as u64);
     }
     next
 }
 
-// The words of number k, the highest first, a blank before each.
-pub(crate) fn put_words(pen: Pen, width: u8, d: [u32; 8], k: u8) -> Pen {
+// The long words of number k, the highest first, a blank before each.
+pub(crate) fn put_longs(pen: Pen, width: u8, d: [u32; 8], k: u8) -> Pen {
     let low = lowest_of(width, k);
     let mut next = pen;
     let mut i = width;
     while 0 < i {
         i -= 1;
         next = put_byte(next, BLANK);
-        next = put_hex(next, word_of(width, d, low, i));
+        next = put_hex(next, long_of(width, d, low, i));
     }
     next
 }
 
-fn divided_word(above: u64, word: u32) -> Share
+fn divided_long(above: u64, long: u32) -> Share
     requires { ⌜ above < 10 ⌝ }
     ensures { λ r. ⌜ r .rest < 10 ⌝ }
 {
-    let all = above * 0x1_0000_0000 + word as u64;
+    let all = above * 0x1_0000_0000 + long as u64;
     Share {
         quotient: (all / 10) as u32,
         rest: all % 10,
     }
 }
 
-fn divided(words: [u32; 4]) -> Tenth
+fn divided(longs: [u32; 4]) -> Tenth
     ensures { λ r. ⌜ r .digit < 10 ⌝ }
 {
-    let third = divided_word(0, words[3]);
-    let second = divided_word(third.rest, words[2]);
-    let first = divided_word(second.rest, words[1]);
-    let last = divided_word(first.rest, words[0]);
+    let third = divided_long(0, longs[3]);
+    let second = divided_long(third.rest, longs[2]);
+    let first = divided_long(second.rest, longs[1]);
+    let last = divided_long(first.rest, longs[0]);
     Tenth {
         quotient: [
             last.quotient,
@@ -128,21 +122,21 @@ fn divided(words: [u32; 4]) -> Tenth
     }
 }
 
-fn is_zero(words: [u32; 4]) -> bool {
-    (words[0] == 0) & (words[1] == 0) & (words[2] == 0) & (words[3] == 0)
+fn is_zero(longs: [u32; 4]) -> bool {
+    (longs[0] == 0) & (longs[1] == 0) & (longs[2] == 0) & (longs[3] == 0)
 }
 
 // The whole value of number k. 2^128 - 1 has 39 digits.
 pub(crate) fn put_value(pen: Pen, width: u8, d: [u32; 8], k: u8) -> Pen {
     let mut digits = [0u8; 39];
-    let mut words = words_of(width, d, k);
+    let mut longs = longs_of(width, d, k);
     let mut i = 39;
     while 0 < i {
-        let t = divided(words);
+        let t = divided(longs);
         i -= 1;
         digits[i] = b'0' + t.digit;
-        words = t.quotient;
-        if is_zero(words) {
+        longs = t.quotient;
+        if is_zero(longs) {
             break;
         }
     }

@@ -6,15 +6,15 @@ use crate::carry::carried;
 use crate::carry::put_carries;
 use crate::course::not_begun;
 use crate::course::one_more;
+use crate::course::step_at;
 use crate::course::whole_run;
 use crate::ending::put_ending;
 use crate::ending::put_settings;
 use crate::lines::line_at;
-use crate::lines::target;
 use crate::numbers::count_of;
+use crate::numbers::put_longs;
 use crate::numbers::put_names;
 use crate::numbers::put_value;
-use crate::numbers::put_words;
 use crate::pen::BLANK;
 use crate::pen::Pen;
 use crate::pen::at_start;
@@ -31,20 +31,23 @@ use crate::pen::put_hex;
 use crate::pen::put_line;
 use crate::pen::put_right;
 use crate::pen::tab;
-use crate::pen::within;
 use crate::words::Asked;
 use alu::types::Flags;
-use recipes::printer::print;
+use recipes::lines::target;
+use recipes::printer::print_step;
 use recipes::types::LINES_MAX;
 use recipes::types::Listing;
-use recipes::types::PRINT_MAX;
 use recipes::types::Recipe;
+use step::forms::Step;
 use step::runs::Ran;
 
 // Where the columns begin; of place, clocks and number, which stand to the right, where they end.
 const PLACE: usize = 5;
 
 const STEP: [usize; 4] = [7, 12, 14, 17];
+
+// Room for a step's line: a place of at most 20 digits, and less than 40 bytes behind it.
+const STEP_ROOM: usize = 64;
 
 const LINE: usize = 21;
 
@@ -119,7 +122,7 @@ fn heading(width: u8) -> Pen {
 fn put_number(pen: Pen, width: u8, d: [u32; 8], k: u8) -> Pen {
     let next = put_right(pen, NUMBER, k as u64);
     let next = tab(next, WORDS - 1);
-    let next = put_words(next, width, d, k);
+    let next = put_longs(next, width, d, k);
     let next = tab(next, value_column(width));
     put_value(next, width, d, k)
 }
@@ -154,15 +157,17 @@ fn put_standing(out: &mut [u8], at: usize, name: &[u8], width: u8, ran: Ran) -> 
     put_numbers(out, at, next, width, d)
 }
 
-// A step's fields, from the listing as it is printed: the place stands before them.
-fn put_step(pen: Pen, printed: &[u8], place: usize) -> Pen {
+// A step's fields, from its line as it is printed: the place stands before them.
+fn put_step(pen: Pen, place: usize, step: Step) -> Pen {
+    let mut line = [0u8; STEP_ROOM];
+    print_step(place as u64, step, &mut line);
     let mut next = put_right(pen, PLACE, place as u64);
-    let mut at = line_start(printed, std::num::wrapping_add_usize(place, 1));
+    let mut at = 0;
     let mut i = 0;
     while i < 4 {
-        at = next_field(printed, at);
+        at = next_field(&line, at);
         next = tab(next, STEP[i]);
-        next = put_field(next, printed, at);
+        next = put_field(next, &line, at);
         i += 1;
     }
     next
@@ -195,7 +200,7 @@ fn put_changed(pen: Pen, before: [u32; 8], after: [u32; 8]) -> Pen {
 }
 
 // The row of a step: `before` has halted at its place, `after` behind it.
-fn row(text: &[u8], printed: &[u8], recipe: Recipe, before: Ran, after: Ran) -> Pen {
+fn row(text: &[u8], recipe: Recipe, made: Listing, before: Ran, after: Ran) -> Pen {
     let lines = recipe.lines;
     let old = before.state;
     let old_d = old.d;
@@ -204,7 +209,7 @@ fn row(text: &[u8], printed: &[u8], recipe: Recipe, before: Ran, after: Ran) -> 
     let flags = state.flags;
     let k = line_at(recipe, before.next);
     let line = lines[k];
-    let next = put_step(at_start(), printed, before.next);
+    let next = put_step(at_start(), before.next, step_at(made, before.next));
     let next = put_text(next, text, k);
     let next = put_changed(next, old_d, d);
     let next = put_flags_and_clocks(next, flags, after.clocks);
@@ -215,7 +220,6 @@ fn put_rows(
     out: &mut [u8],
     at: usize,
     text: &[u8],
-    printed: &[u8],
     recipe: Recipe,
     made: Listing,
     start: Ran,
@@ -226,7 +230,7 @@ fn put_rows(
     let mut left = steps;
     while 0 < left {
         let after = one_more(made, ran);
-        next = put_line(out, next, row(text, printed, recipe, ran, after));
+        next = put_line(out, next, row(text, recipe, made, ran, after));
         ran = after;
         left -= 1;
     }
@@ -250,16 +254,16 @@ fn put_bottom(
     out: &mut [u8],
     at: usize,
     recipe: Recipe,
-    told: [bool; LINES_MAX],
+    marked: [bool; LINES_MAX],
     ran: Ran,
 ) -> usize {
     let next = put_standing(out, at, b"end", recipe.width, ran);
     let next = put_line(out, next, at_start());
-    let next = put_carries(out, next, recipe, told);
+    let next = put_carries(out, next, recipe, marked);
     put_ending(out, next, ran)
 }
 
-// The whole table. The array has room for any listing, as that of the program `recipe` has.
+// The whole table.
 pub(crate) fn put_run(
     out: &mut [u8],
     asked: Asked,
@@ -268,24 +272,11 @@ pub(crate) fn put_run(
     made: Listing,
 ) -> usize {
     let width = recipe.width;
-    let listing = made.steps;
-    let mut printed = [0u8; PRINT_MAX];
-    let n = print(width, listing, made.count, &mut printed);
-    let n = within(n, &printed);
     let start = not_begun(asked);
     let ran = whole_run(made, asked);
     let next = put_top(out, asked, recipe, made.count);
     let next = put_standing(out, next, b"start", width, start);
-    let next = put_rows(
-        out,
-        next,
-        text,
-        &printed[..n],
-        recipe,
-        made,
-        start,
-        ran.steps,
-    );
-    let told = carried(recipe, made, start, ran.steps);
-    put_bottom(out, next, recipe, told, ran)
+    let next = put_rows(out, next, text, recipe, made, start, ran.steps);
+    let marked = carried(recipe, made, start, ran.steps);
+    put_bottom(out, next, recipe, marked, ran)
 }

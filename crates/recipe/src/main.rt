@@ -15,7 +15,7 @@ fn answer(text: &[u8], out: &mut [u8; PRINT_MAX]) -> usize
     ensures { λ r. ⌜ Counts r (now (out .exit)) ⌝ }
     ensures { λ r. ⌜ take r (now (out .exit)) ≡ answerOf (now (text .entry)) ⌝ }
 {
-    recipes::printer::answer(text, out)
+    recipes::runner::answer(text, out)
 }
 
 fn main() {

@@ -11,7 +11,7 @@ use contract.Monad.{Fun}
 use contract.Lifetimes.{Lfts}
 use denote.Triple.Entry.{Args}
 use Rattle.step.proofs.Determined.{OneExit}
-use Rattle.recipes.specs.Text.{written}
+use Rattle.text.specs.Wrote.{written}
 use Rattle.recipe_calls.specs.Calls.{rowLeft, stateLeft}
 use Rattle.recipe_calls.proofs.Determined as of
 use Rattle.recipe_archive.proofs.recipe_translate as recipe-translate

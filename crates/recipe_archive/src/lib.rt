@@ -2,7 +2,7 @@
 // arguments on, and promises word for word what that of recipe_calls promises. They are a crate of their own because whoever makes an archive proves
 // its crate again: so that is this page, and not recipe_calls.
 ghost use mathlib.Core.Path.{_≡_};
-ghost use Rattle.recipes.specs.Text.{written, writing};
+ghost use Rattle.text.specs.Wrote.{written, writing};
 ghost use Rattle.recipes.specs.Printer.{listingText, answerOf};
 ghost use Rattle.recipe_calls.specs.Words.{firstOf};
 ghost use Rattle.recipe_calls.specs.Calls.{rowLeft, stateLeft, translateWords, runWords, recipeRunWords};
@@ -32,14 +32,14 @@ pub extern "C" fn listing_run(
 
 #[no_mangle]
 pub extern "C" fn listing_print(width: u8, listing: &[u64], out: &mut [u8]) -> usize
-    ensures { λ r. ⌜ written (now (out .exit)) r ≡ writing (now (out .entry)) (listingText width (firstOf (now (listing .entry)))) ⌝ }
+    ensures { λ r. ⌜ written (now (out .exit)) r ≡ writing (now (out .entry)) 0 (listingText width (firstOf (now (listing .entry)))) ⌝ }
 {
     recipe_calls::listing_print(width, listing, out)
 }
 
 #[no_mangle]
 pub extern "C" fn recipe_answer(text: &[u8], out: &mut [u8]) -> usize
-    ensures { λ r. ⌜ written (now (out .exit)) r ≡ writing (now (out .entry)) (answerOf (now (text .entry))) ⌝ }
+    ensures { λ r. ⌜ written (now (out .exit)) r ≡ writing (now (out .entry)) 0 (answerOf (now (text .entry))) ⌝ }
 {
     recipe_calls::recipe_answer(text, out)
 }

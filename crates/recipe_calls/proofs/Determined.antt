@@ -12,7 +12,7 @@ use contract.Lifetimes.{Lfts}
 use denote.Ref.{now}
 use denote.Triple.Entry.{Args}
 use Rattle.step.proofs.Determined.{OneExit}
-use Rattle.recipes.specs.Text.{Written, written, writing}
+use Rattle.text.specs.Wrote.{Written, written, writing}
 use Rattle.recipes.specs.Printer.{listingText, answerOf}
 use Rattle.recipe_calls.specs.Words.{firstOf}
 use Rattle.recipe_calls.specs.Calls.{RowLeft, StateLeft, rowLeft, stateLeft, translateWords, runWords, recipeRunWords}
@@ -44,17 +44,17 @@ module _ {M : Type 1} (𝓤 : URA M) (H : Heap 𝓤) (A : Atoms 𝓤) (mem : Mem
   pub listing-print-determined :
       (κs : Lfts 2) (a : Args listing-print.signature κs) → OneExit 𝓤 listing-print.ended κs a (λ r ws. written (ws .1 .1 .0) r) (listing-print.clauses 𝓤 H A mem go κs a .ensures tt)
   listing-print-determined κs a = record {
-    of = writing (now (a .1 .1 .0)) (listingText (a .0) (firstOf (now (a .1 .0))));
+    of = writing (now (a .1 .1 .0)) 0 (listingText (a .0) (firstOf (now (a .1 .0))));
     is = λ r ws. refl;
-    all = λ r r′ ws ws′ e. (ap (λ (w : Written). w .count) e, ap (λ (w : Written). (tt, (tt, (w .bytes, tt)))) e);
+    all = λ r r′ ws ws′ e. (ap (λ (w : Written). w .next) e, ap (λ (w : Written). (tt, (tt, (w .bytes, tt)))) e);
   }
 
   pub recipe-answer-determined :
       (κs : Lfts 2) (a : Args recipe-answer.signature κs) → OneExit 𝓤 recipe-answer.ended κs a (λ r ws. written (ws .1 .0) r) (recipe-answer.clauses 𝓤 H A mem go κs a .ensures tt)
   recipe-answer-determined κs a = record {
-    of = writing (now (a .1 .0)) (answerOf (now (a .0)));
+    of = writing (now (a .1 .0)) 0 (answerOf (now (a .0)));
     is = λ r ws. refl;
-    all = λ r r′ ws ws′ e. (ap (λ (w : Written). w .count) e, ap (λ (w : Written). (tt, (w .bytes, tt))) e);
+    all = λ r r′ ws ws′ e. (ap (λ (w : Written). w .next) e, ap (λ (w : Written). (tt, (w .bytes, tt))) e);
   }
 
   pub recipe-run-determined :

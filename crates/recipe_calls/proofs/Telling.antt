@@ -3,9 +3,10 @@
 --     slipped, passed   a text that the reader refuses, and one that it reads
 --     fits, short       a translation made in an array, handed to a row that has room for it, and to one that has not: that into as many slots
 use Prim.Native.Nat.{ℕ, _≤_, _<_}
+use mathlib.Core.Bool.{true, false}
 use mathlib.Core.Path.{_≡_, refl, sym, ap, _∙_}
 use mathlib.Core.List.{List, _∷_, _++_}
-use borrow.Author.Tests.{eq-eqb, ne-eqb, le-ltb, lt-ltb}
+use borrow.Author.Tests.{le-ltb, lt-ltb}
 use lib.ListN.{length, getD, take, drop, replicate, length-replicate}
 use lib.Seq.{take-at, length-take-le}
 use Rattle.step.specs.declared.forms.Step.{Step}
@@ -15,7 +16,7 @@ use Rattle.step.specs.Run.{endNumbers}
 use Rattle.recipes.specs.declared.types.Recipe.{Recipe}
 use Rattle.recipes.specs.declared.types.Refusal.the-variants.{NoSpace}
 use Rattle.recipes.specs.declared.types.Reading.{Reading}
-use Rattle.recipes.specs.Recipe.{numberOf}
+use Rattle.recipes.specs.Recipe.{atLine, isNothing}
 use Rattle.recipes.specs.Reader.{readOf}
 use Rattle.recipes.specs.Listing.{blank, blanks, translateOf}
 use Rattle.recipes.proofs.Settling.{blanks-hold, translate-lent}
@@ -32,14 +33,14 @@ abbrev slots : List ℕ → List Step
 slots row = replicate (length row) blank
 
 pub slipped :
-    (text row : List ℕ) (r : Reading) {n : ℕ} → r ≡ readOf text → n ≡ numberOf (r .refusal) → (n ≡ 0 → ⊥) →
-    rowLeft row (translationTold (r .refusal) (r .line) 0) ≡ translateWords text row
-slipped text row r is n some = rw (← is, ne-eqb (numberOf (r .refusal)) 0 (λ z. some (n ∙ z)))
+    (text row : List ℕ) (r : Reading) → r ≡ readOf text → isNothing (r .refused) ≡ false →
+    rowLeft row (translationTold (r .refused) 0) ≡ translateWords text row
+slipped text row r is some = rw (← is, some)
 
 pub passed :
-    (text row : List ℕ) (r : Reading) {n : ℕ} → r ≡ readOf text → n ≡ numberOf (r .refusal) → n ≡ 0 →
+    (text row : List ℕ) (r : Reading) → r ≡ readOf text → isNothing (r .refused) ≡ true →
     listedIn row (translateOf (r .recipe) (slots row)) ≡ translateWords text row
-passed text row r is n none = rw (← is, eq-eqb (numberOf (r .refusal)) 0 (sym n ∙ none))
+passed text row r is none = rw (← is, none)
 
 pub fits :
     (row : List ℕ) (r : Recipe) → translateOf r blanks .count ≤ length row →
@@ -51,7 +52,7 @@ fits row r room =
     (ap (listedIn row) (sym (translate-lent r (slots row)))
     ∙ rw (le-ltb (length (slots row)) (t .count) enough, take-at (take (t .count) (t .steps)) (drop (t .count) (slots row)) (t .count) (length-take-le (t .count) (t .steps) (blanks-hold r))))
 
-pub short : (row : List ℕ) (r : Recipe) → length row < translateOf r blanks .count → rowLeft row (translationTold NoSpace 0 0) ≡ listedIn row (translateOf r (slots row))
+pub short : (row : List ℕ) (r : Recipe) → length row < translateOf r blanks .count → rowLeft row (translationTold (atLine NoSpace 0) 0) ≡ listedIn row (translateOf r (slots row))
 short row r room =
     let t = translateOf r blanks in
     let few : length (slots row) < t .count = rw (length-replicate) room in

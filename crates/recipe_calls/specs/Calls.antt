@@ -10,7 +10,7 @@ use Rattle.step.specs.declared.forms.Step.{Step}
 use Rattle.step.specs.declared.runs.Ran.{Ran}
 use Rattle.step.specs.Perform.{performOf}
 use Rattle.step.specs.Run.{runOf, endNumbers}
-use Rattle.recipes.specs.declared.types.Refusal.{Refusal}
+use Rattle.recipes.specs.declared.types.Refused.{Refused}
 use Rattle.recipes.specs.declared.types.Reading.{Reading}
 use Rattle.recipes.specs.declared.types.Listing.{Listing}
 use Rattle.recipes.specs.declared.types.Codes.{Codes}
@@ -44,16 +44,16 @@ stateLeft d a flags told = record { d = d; a = a; flags = flags; told = told }
 
 -- ---- recipe_translate: the listing; refusal number, text line, number of steps
 
-abbrev pub translationTold : Refusal → (line steps : ℕ) → List ℕ
-translationTold refusal line steps = numberOf refusal ∷ line ∷ steps ∷ 0 ∷ 0 ∷ 0 ∷ 0 ∷ 0 ∷ []
+abbrev pub translationTold : Refused → (steps : ℕ) → List ℕ
+translationTold k steps = numberOf (k .refusal) ∷ k .line ∷ steps ∷ 0 ∷ 0 ∷ 0 ∷ 0 ∷ 0 ∷ []
 
 -- a text translated into a row of slots; a text that is refused has no steps
 abbrev pub textListed : (slots : List Step) → Reading → Listing
-textListed slots r = cond (isNothing (r .refusal)) (translateOf (r .recipe) slots) (listed (r .refusal) (r .line) 0 slots)
+textListed slots r = cond (isNothing (r .refused)) (translateOf (r .recipe) slots) (listed (r .refused) 0 slots)
 
 -- the words of its steps go to the front of the row that is lent
 abbrev pub listedIn : (listing : List ℕ) → Listing → RowLeft
-listedIn listing t = rowLeft (over (map stepWord (take (t .count) (t .steps))) listing) (translationTold (t .refusal) (t .line) (t .count))
+listedIn listing t = rowLeft (over (map stepWord (take (t .count) (t .steps))) listing) (translationTold (t .refused) (t .count))
 
 -- the translation has as many slots as that row
 abbrev pub translateWords : (text listing : List ℕ) → RowLeft
@@ -83,7 +83,7 @@ ccrAfter x Open = digit x * 16
 ccrAfter x (Known f) = ccrOf f
 
 abbrev pub recipeTold : RecipeRun → StateLeft
-recipeTold r = stateLeft (r .d) (r .a) (ccrAfter (r .x) (r .codes)) (numberOf (r .refusal) ∷ r .line ∷ promisedOf (r .codes) ∷ r .steps ∷ r .clocks ∷ 0 ∷ 0 ∷ 0 ∷ [])
+recipeTold r = stateLeft (r .d) (r .a) (ccrAfter (r .x) (r .codes)) (numberOf (r .refused .refusal) ∷ r .refused .line ∷ promisedOf (r .codes) ∷ r .steps ∷ r .clocks ∷ 0 ∷ 0 ∷ 0 ∷ [])
 
 abbrev pub recipeRunWords : (text d a : List ℕ) → (flags : ℕ) → StateLeft
 recipeRunWords text d a flags = recipeTold (textRunOf text (stateOf d a flags))

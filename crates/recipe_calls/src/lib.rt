@@ -9,19 +9,22 @@ mod words;
 
 ghost use mathlib.Core.Path.{_≡_};
 ghost use Rattle.step.specs.Run.{endNumbers};
-ghost use Rattle.recipes.specs.Text.{written, writing};
+ghost use Rattle.text.specs.Wrote.{written, writing};
 ghost use Rattle.recipes.specs.Printer.{listingText, answerOf};
 ghost use Rattle.recipe_calls.specs.Words.{firstOf};
 ghost use Rattle.recipe_calls.specs.Calls.{rowLeft, stateLeft, translationTold, translateWords, runWords, promisedOf, ccrAfter, recipeRunWords};
 use alu::types::ccr;
 use alu::types::flags_of;
-use recipes::printer::answer;
 use recipes::printer::print;
 use recipes::reader::read;
+use recipes::runner::answer;
 use recipes::runner::run_text;
 use recipes::translator::translate_array;
 use recipes::types::Codes;
 use recipes::types::Refusal;
+use recipes::types::Refused;
+use recipes::types::at_line;
+use recipes::types::is_nothing;
 use recipes::types::number;
 use rows::put_steps;
 use rows::steps_of;
@@ -29,23 +32,18 @@ use step::registers::State;
 use step::runs::End;
 use step::runs::run_array;
 use step::steps::class;
-use words::wide;
 
 // How many numbers a call tells.
 pub const TOLD: usize = 8;
 
-fn long(x: u32) -> u64
-    ensures { λ r. ⌜ r ≡ x ⌝ }
-{
-    x as u64
-}
-
 // What is told of a translation.
-fn translation_told(refusal: Refusal, line: usize, steps: usize) -> [u64; TOLD]
-    ensures { λ r. ⌜ r ≡ translationTold refusal line steps ⌝ }
+fn translation_told(refused: Refused, steps: usize) -> [u64; TOLD]
+    ensures { λ r. ⌜ r ≡ translationTold refused steps ⌝ }
 {
-    let number = wide(number(refusal));
-    [number, line as u64, steps as u64, 0, 0, 0, 0, 0]
+    let refusal = refused.refusal;
+    let number = number(refusal) as u64;
+    let line = refused.line as u64;
+    [number, line, steps as u64, 0, 0, 0, 0, 0]
 }
 
 // Reads a recipe text and translates it into a listing. `told` gets the refusal number, its text line and the number of steps.
@@ -53,21 +51,21 @@ pub fn recipe_translate(text: &[u8], listing: &mut [u64], told: &mut [u64; TOLD]
     ensures { λ _. ⌜ rowLeft (now (listing .exit)) (now (told .exit)) ≡ translateWords (now (text .entry)) (now (listing .entry)) ⌝ }
 {
     let reading = read(text);
-    let slip = reading.refusal;
+    let slip = reading.refused;
     let recipe = reading.recipe;
-    if number(slip) != 0 {
-        *told = translation_told(slip, reading.line, 0);
+    if !is_nothing(slip) {
+        *told = translation_told(slip, 0);
         return;
     }
     let made = translate_array(recipe);
-    let refusal = made.refusal;
+    let refused = made.refused;
     let steps = made.steps;
     if listing.len() < made.count {
-        *told = translation_told(Refusal::NoSpace, 0, 0);
+        *told = translation_told(at_line(Refusal::NoSpace, 0), 0);
         return;
     }
     put_steps(steps, made.count, listing);
-    *told = translation_told(refusal, made.line, made.count);
+    *told = translation_told(refused, made.count);
 }
 
 // Which of the four ends it is, its trap's class or its refusal's number, and the place of either.
@@ -77,8 +75,8 @@ fn end_numbers(end: End) -> [u64; 3]
     match end {
         End::Finished => [0, 0, 0],
         End::Budget => [1, 0, 0],
-        End::Trapped(trap, place) => [2, long(class(trap)), place as u64],
-        End::Refused(fault, place) => [3, long(step::steps::number(fault)), place as u64],
+        End::Trapped(trap, place) => [2, class(trap) as u64, place as u64],
+        End::Refused(fault, place) => [3, step::steps::number(fault) as u64, place as u64],
     }
 }
 
@@ -117,7 +115,7 @@ pub fn listing_run(
         end[1],
         end[2],
         ran.next as u64,
-        long(ran.steps),
+        ran.steps as u64,
         ran.clocks,
         0,
         0,
@@ -126,14 +124,14 @@ pub fn listing_run(
 
 // Prints the first `SLOTS` steps of a listing, as the program `recipe` does, and answers how many bytes it wrote.
 pub fn listing_print(width: u8, listing: &[u64], out: &mut [u8]) -> usize
-    ensures { λ r. ⌜ written (now (out .exit)) r ≡ writing (now (out .entry)) (listingText width (firstOf (now (listing .entry)))) ⌝ }
+    ensures { λ r. ⌜ written (now (out .exit)) r ≡ writing (now (out .entry)) 0 (listingText width (firstOf (now (listing .entry)))) ⌝ }
 {
     print(width, steps_of(listing), listing.len(), out)
 }
 
 // What the program `recipe` prints for a text.
 pub fn recipe_answer(text: &[u8], out: &mut [u8]) -> usize
-    ensures { λ r. ⌜ written (now (out .exit)) r ≡ writing (now (out .entry)) (answerOf (now (text .entry))) ⌝ }
+    ensures { λ r. ⌜ written (now (out .exit)) r ≡ writing (now (out .entry)) 0 (answerOf (now (text .entry))) ⌝ }
 {
     answer(text, out)
 }
@@ -180,15 +178,16 @@ pub fn recipe_run(
     let after_d = ran.d;
     let after_a = ran.a;
     let codes = ran.codes;
-    let refusal = ran.refusal;
+    let refused = ran.refused;
+    let refusal = refused.refusal;
     *d = after_d;
     *a = after_a;
     *flags = ccr_after(ran.x, codes);
     *told = [
-        wide(number(refusal)),
-        ran.line as u64,
-        wide(promised(codes)),
-        long(ran.steps),
+        number(refusal) as u64,
+        refused.line as u64,
+        promised(codes) as u64,
+        ran.steps as u64,
         ran.clocks,
         0,
         0,

@@ -1,7 +1,7 @@
 // Rows of words: a listing's steps.
 ghost use mathlib.Core.Path.{_≡_};
 ghost use mathlib.Core.List.{map};
-ghost use Prim.Native.Nat.{_≤_, min};
+ghost use Prim.Native.Nat.{_≤_};
 ghost use lib.ListN.{length, take};
 ghost use Rattle.recipes.specs.Listing.{over};
 ghost use Rattle.recipe_calls.specs.Words.{stepWord, firstOf};
@@ -10,12 +10,7 @@ use super::words::step_of;
 use super::words::step_word;
 use step::forms::Step;
 use step::runs::SLOTS;
-
-fn lesser(a: usize, b: usize) -> usize
-    ensures { λ r. ⌜ r ≡ min a b ⌝ }
-{
-    if a < b { a } else { b }
-}
+use step::runs::lesser;
 
 // The steps that the first `SLOTS` words of a listing name; behind them, steps that are refused.
 pub(crate) fn steps_of(listing: &[u64]) -> [Step; SLOTS]

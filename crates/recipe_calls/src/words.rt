@@ -239,21 +239,15 @@ fn destination_number(form: Form) -> u8
     }
 }
 
-pub(crate) fn wide(x: u8) -> u64
-    ensures { λ r. ⌜ (r ≡ x) × (r < 2 ^ 8) ⌝ }
-{
-    x as u64
-}
-
 // A step's word.
 pub(crate) fn step_word(step: Step) -> u64
     ensures { λ r. ⌜ r ≡ stepWord step ⌝ }
 {
     let size = step.size;
     let form = step.form;
-    wide(number(operation_of(form)))
-        + wide(size_number(size)) * 0x100
-        + wide(source_kind(form)) * 0x1_0000
-        + wide(source_number(form)) * 0x100_0000
-        + wide(destination_number(form)) * 0x1_0000_0000
+    number(operation_of(form)) as u64
+        + size_number(size) as u64 * 0x100
+        + source_kind(form) as u64 * 0x1_0000
+        + source_number(form) as u64 * 0x100_0000
+        + destination_number(form) as u64 * 0x1_0000_0000
 }

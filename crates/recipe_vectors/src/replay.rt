@@ -8,12 +8,13 @@ use recipes::runner::run_text;
 use recipes::translator::translate_array;
 use recipes::types::Codes;
 use recipes::types::RecipeRun;
-use recipes::types::number;
+use recipes::types::is_nothing;
 use step::forms::Step;
 use step::runs::End;
 use step::runs::Ran;
 use step::runs::SLOTS;
-use step::runs::run_array;
+use step::runs::begun;
+use step::runs::resumed;
 
 // What is not as it ought to be.
 pub(crate) enum Slip {
@@ -59,31 +60,10 @@ fn first_of(a: Slip, b: Slip) -> Slip {
     if is_slip(a) { a } else { b }
 }
 
-// A run before its first step.
+// The run of a vector before its first step.
 fn not_begun(vector: Vector) -> Ran {
     let state = vector.before;
-    Ran {
-        end: End::Budget,
-        state,
-        next: 0,
-        steps: 0,
-        clocks: 0,
-    }
-}
-
-// A run that is continued from where it halted: steps and clocks add.
-fn continued(listing: [Step; SLOTS], count: u32, ran: Ran, budget: u32) -> Ran {
-    let halted = ran.state;
-    let more = run_array(listing, count as usize, halted, ran.next, budget);
-    let end = more.end;
-    let state = more.state;
-    Ran {
-        end,
-        state,
-        next: more.next,
-        steps: std::num::wrapping_add_u32(ran.steps, more.steps),
-        clocks: std::num::wrapping_add_u64(ran.clocks, more.clocks),
-    }
+    begun(state, 0)
 }
 
 fn is_budget(end: End) -> bool {
@@ -186,9 +166,9 @@ fn halted_at(vector: Vector, listing: [Step; SLOTS], place: u32) -> Slip
     requires { ⌜ place ≤ vector .steps ⌝ }
 {
     let count = vector.steps;
-    let begun = continued(listing, count, not_begun(vector), place);
-    let whole = continued(listing, count, begun, count - place);
-    first_of(judge_halt(vector, begun, place), judge(vector, whole))
+    let part = resumed(listing, count as usize, not_begun(vector), place);
+    let whole = resumed(listing, count as usize, part, count - place);
+    first_of(judge_halt(vector, part, place), judge(vector, whole))
 }
 
 // The start and the end are places too.
@@ -213,13 +193,13 @@ fn halted_at_each(vector: Vector, listing: [Step; SLOTS]) -> Replayed {
 fn step_by_step(vector: Vector, listing: [Step; SLOTS]) -> Replayed {
     let count = vector.steps;
     let mut runs: u64 = 1;
-    let mut ran = continued(listing, count, not_begun(vector), 0);
+    let mut ran = resumed(listing, count as usize, not_begun(vector), 0);
     for place in 0..count {
         let slip = judge_halt(vector, ran, place);
         if is_slip(slip) {
             return Replayed { runs, slip, place };
         }
-        ran = continued(listing, count, ran, 1);
+        ran = resumed(listing, count as usize, ran, 1);
         runs = std::num::wrapping_add_u64(runs, 1);
     }
     Replayed {
@@ -265,11 +245,11 @@ fn judge_recipe(vector: Vector, run: RecipeRun) -> Slip {
     let data = vector.data;
     let flags = vector.flags;
     let promised = vector.promised;
-    let refusal = run.refusal;
+    let refused = run.refused;
     let d = run.d;
     let a = run.a;
     let codes = run.codes;
-    let accepted = (number(refusal) == 0) & (run.line == 0);
+    let accepted = is_nothing(refused) & (refused.line == 0);
     let counted = (run.steps == vector.steps) & (run.clocks == vector.clocks);
     let registers = same_registers(d, data) & same_registers(a, address);
     let told = (run.x == flags.x) & same_codes(promised, codes, flags);
@@ -293,16 +273,16 @@ fn run_whole(vector: Vector, text: &[u8]) -> Replayed {
 // Its text is read and translated, and the listing is halted at every place.
 fn replay_listing(vector: Vector, text: &[u8]) -> Replayed {
     let reading = read(text);
-    let refusal = reading.refusal;
+    let refused = reading.refused;
     let recipe = reading.recipe;
     let middle = vector.middle;
-    if number(refusal) != 0 {
+    if !is_nothing(refused) {
         return without_run(Slip::Reading);
     }
     let made = translate_array(recipe);
-    let refusal = made.refusal;
+    let refused = made.refused;
     let listing = made.steps;
-    if number(refusal) != 0 {
+    if !is_nothing(refused) {
         return without_run(Slip::Translation);
     }
     if made.count != vector.steps as usize {

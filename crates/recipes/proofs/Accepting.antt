@@ -24,6 +24,11 @@ use Rattle.recipes.specs.declared.lines.LineRead.the-variants.{Read, Sli
 use Rattle.recipes.specs.Recipe.{linesMax, numberOf, atLine, isNothing, isCopy, target, isWidth, recipeLines, lineChecked, Names, Accepted}
 use Rattle.recipes.specs.Listing.{unlessSlip, linesPass, tested}
 
+-- a choice between the same
+pub cond-same : {A : Type 0} (t : Bool) (x : A) → cond t x x ≡ x
+cond-same true x = refl
+cond-same false x = refl
+
 -- ---- lines
 
 abbrev isRead : LineRead → Bool

@@ -22,13 +22,13 @@ use Rattle.recipes.specs.declared.types.Refusal.the-variants.{Syntax, To
 use Rattle.recipes.specs.declared.types.Refused.{Refused}
 use Rattle.recipes.specs.declared.lines.LineRead.{LineRead}
 use Rattle.recipes.specs.declared.lines.LineRead.the-variants.{Read, Slip}
-use Rattle.recipes.specs.declared.reader.Digit.{Digit}
-use Rattle.recipes.specs.declared.reader.Digit.the-variants.{Is, Bad}
+use Rattle.text.specs.declared.types.Digit.{Digit}
+use Rattle.text.specs.declared.types.Digit.the-variants.{Is, Bad}
 use Rattle.recipes.specs.declared.reader.VerbRead.{VerbRead}
 use Rattle.recipes.specs.declared.reader.VerbRead.the-variants.{Known, Unknown}
-use Rattle.recipes.specs.Text.{ascii, sameBytes, before, after}
+use Rattle.text.specs.Text.{ascii, sameBytes, before, after, digitOf}
 use Rattle.recipes.specs.Recipe.{linesMax, numberOf, atLine, noRefusal, isNothing, takesTwo, isWidth, recipeLines, unused, lineChecked, Names, Accepted}
-use Rattle.recipes.specs.Reader.{refusedAt, verbOf, digitOf, onlyDigit, withOne, withTwo, oneField, twoFields, fieldsOf, thenChecked, lineOf, orSlip, linesOf, widthDigit, widthLine, fromFirst, readOf}
+use Rattle.recipes.specs.Reader.{refusedAt, verbOf, onlyDigit, withOne, withTwo, oneField, twoFields, fieldsOf, thenChecked, lineOf, orSlip, linesOf, widthDigit, widthLine, fromFirst, readOf}
 use Rattle.recipes.specs.Listing.{linesPass, tested, listingOf, stepsOf, over, listed, translateOf}
 use Rattle.recipes.proofs.Accepting.{Good, no-read, checked-names, checked-same, checked-slip, names-checked, tests-agree}
 

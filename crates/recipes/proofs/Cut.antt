@@ -21,15 +21,15 @@ use Rattle.recipes.specs.declared.types.Refusal.{Refusal}
 use Rattle.recipes.specs.declared.types.Refusal.the-variants.{WidthLine, Syntax, TooManyLines}
 use Rattle.recipes.specs.declared.reader.VerbRead.{VerbRead}
 use Rattle.recipes.specs.declared.reader.VerbRead.the-variants.{Known, Unknown}
-use Rattle.recipes.specs.declared.reader.Digit.{Digit}
-use Rattle.recipes.specs.declared.reader.Digit.the-variants.{Is, Bad}
+use Rattle.text.specs.declared.types.Digit.{Digit}
+use Rattle.text.specs.declared.types.Digit.the-variants.{Is, Bad}
 use Rattle.recipes.specs.declared.lines.LineRead.{LineRead}
 use Rattle.recipes.specs.declared.lines.LineRead.the-variants.{Read, Slip}
-use Rattle.recipes.specs.Text.{ascii, sameBytes, before, after}
+use Rattle.text.specs.Text.{ascii, sameBytes, before, after, digitOf}
 use Rattle.recipes.specs.Recipe.{linesMax, numberOf, isNothing, takesTwo}
-use Rattle.recipes.specs.Reader.{refusedAt, verbOf, digitOf, onlyDigit, withTwo, oneField, twoFields, fieldsOf, lineOf, linesOf, widthLine, fromFirst, readOf}
+use Rattle.recipes.specs.Reader.{refusedAt, verbOf, onlyDigit, withTwo, oneField, twoFields, fieldsOf, lineOf, linesOf, widthLine, fromFirst, readOf}
 use Rattle.recipes.specs.Printer.{textMax, readingPrinted, answerOf}
-use Rattle.recipes.proofs.Texts.{cond-same}
+use Rattle.recipes.proofs.Accepting.{cond-same}
 use Rattle.recipes.proofs.Accepting.{no-read}
 use Rattle.recipes.proofs.Agreeing.{HasNumber, line-number}
 use Rattle.recipes.proofs.LineByLine.{lines-cut, lines-next}

@@ -22,8 +22,8 @@ use Rattle.step.specs.declared.steps.Performed.{Performed}
 use Rattle.step.specs.declared.runs.End.the-variants.{Finished}
 use Rattle.step.specs.declared.runs.Ran.{Ran}
 use Rattle.step.specs.Perform.{performOf}
-use Rattle.step.specs.Run.{ends, runOf}
-use Rattle.step.specs.Parts.{after, goesOn, total}
+use Rattle.step.specs.Run.{ends, runOf, after}
+use Rattle.step.specs.Parts.{goesOn, total}
 use Rattle.step.proofs.Laws.{spot-end, run-end}
 use Rattle.step.proofs.Promises.{Alu, Legal, Steps, performs}
 use Rattle.step.proofs.Leading.{All, executed, figures, Stands, stands-first, stands-left, stands-right, Leads, leads-none, leads-then, leads-like, leads-through, leads-in-parts, idle}

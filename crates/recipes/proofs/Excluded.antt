@@ -31,10 +31,10 @@ use Rattle.step.proofs.Laws.{run-next}
 use Rattle.recipes.specs.declared.types.Verb.the-variants.{Add, Neg}
 use Rattle.recipes.specs.declared.types.Line.{Line}
 use Rattle.recipes.specs.declared.types.RecipeRun.{RecipeRun}
-use Rattle.recipes.specs.Text.{ascii, sameBytes, before, after}
+use Rattle.text.specs.Text.{ascii, sameBytes, before, after, digitOf}
 use Rattle.recipes.specs.declared.lines.Act.the-variants.{Two}
 use Rattle.recipes.specs.Recipe.{isNothing, lineChecked}
-use Rattle.recipes.specs.Reader.{verbOf, digitOf, lineOf, linesOf, widthLine, readOf}
+use Rattle.recipes.specs.Reader.{verbOf, lineOf, linesOf, widthLine, readOf}
 use Rattle.recipes.specs.Listing.{stepOf, risingRest, lineSteps, listingOf}
 use Rattle.recipes.specs.Rule.{numbersOf, registersOf, saidBy, rulesOf}
 use Rattle.recipes.specs.Demand.{Meets, textRunOf}

@@ -1,5 +1,3 @@
-pub mod Texts
-pub mod Writing
 pub mod Steps
 pub mod Accepting
 pub mod Settling

@@ -9,7 +9,7 @@ use lib.Dec.{eqb}
 use lib.ListN.{length, set, length-append}
 use lib.Seq.{set-append-seam}
 use borrow.Author.Tests.{eq-eqb, ne-eqb}
-use Rattle.recipes.specs.Text.{before, after, parts}
+use Rattle.text.specs.Text.{before, after, parts}
 use Rattle.recipes.specs.Reader.{padded, accepted, refusedAt, orSlip, lineOf, linesOf}
 use Rattle.recipes.specs.declared.types.Line.{Line}
 use Rattle.recipes.specs.declared.types.Refusal.the-variants.{Syntax, TooManyLines}

@@ -1,15 +1,11 @@
 -- Laws of the printed listing, one for each turn of a printer's loop. Assumes nothing.
 use Prim.Native.Nat.{ℕ, suc, _+_, _≤_, _<_}
-use mathlib.Core.Bool.{cond}
 use mathlib.Core.List.{List, [], _∷_, _++_, append-nil, append-assoc}
 use mathlib.Core.Path.{_≡_}
-use native.Mathlib.Decide.{decLe}
 use native.Mathlib.Numerals.{add-one}
 use native.Mathlib.Omega.{arith}
-use borrow.Author.Tests.{lt-ltb, le-ltb}
-use lib.Dec.{ltb}
 use lib.ListN.{length, take, getD}
-use lib.Seq.{take-suc, take-all, length-take-le}
+use lib.Seq.{take-suc, length-take-le}
 use Rattle.alu.specs.declared.types.Size.the-variants.{Byte}
 use Rattle.step.specs.declared.forms.TwoOp.the-variants.{Add}
 use Rattle.step.specs.declared.forms.Form.the-variants.{Two}
@@ -41,11 +37,3 @@ clocks-snoc (m ∷ ks) k = rw (clocks-snoc ks k) (omega arith)
 -- one more figure
 pub clocks-next : (l : List Step) (k : ℕ) → k < length l → clocksOf (take (k + 1) l) ≡ clocksOf (take k l) + figureOf (getD l k nop)
 clocks-next l k h = rw (add-one, take-suc l k nop h, clocks-snoc)
-
--- how many steps there are
-pub take-many : (l : List Step) (n m : ℕ) → length l ≡ m → cond (ltb n m) n m ≡ length (take n l)
-take-many l n m e = go (decLe m n)
-  where
-    go : Dec (m ≤ n) → cond (ltb n m) n m ≡ length (take n l)
-    go (yes h) = rw (le-ltb n m h, take-all n l (omega arith), e)
-    go (no h) = rw (lt-ltb n m (omega arith), length-take-le n l (omega arith))

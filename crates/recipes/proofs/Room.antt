@@ -1,6 +1,5 @@
 -- How long printed texts are: the program's buffer of `printMax` bytes has room for any of them, whatever steps stand in a listing. Assumes nothing.
 --     answer-short    the program's answer to any text
---     whole-written   so what is written is the whole text
 use Prim.Native.Nat.{ℕ, zero, suc, _+_, _*_, _/_, _%_, _≤_, min, _-_}
 use mathlib.Core.Bool.{Bool, true, false, cond}
 use mathlib.Core.List.{List, [], _∷_, _++_}
@@ -8,9 +7,7 @@ use mathlib.Core.Path.{_≡_, refl, sym, ap, _∙_}
 use native.Mathlib.Omega.{arith}
 use borrow.Author.Tests.{leb-true}
 use lib.Dec.{ltb, leb}
-use lib.ListN.{length, take, drop, length-append, length-take, length-drop}
-use lib.Seq.{take-at, take-all, length-take-le}
-use Rattle.io.specs.Counts.{Counts}
+use lib.ListN.{length, take, length-append, length-take}
 use Rattle.alu.specs.declared.types.Size.{Size}
 use Rattle.alu.specs.declared.types.Size.the-variants.{Byte, Word, Long}
 use Rattle.step.specs.declared.forms.Register.{Register}
@@ -24,23 +21,15 @@ use Rattle.step.specs.Operations.{Row, operationOf}
 use Rattle.step.proofs.Operations.{each-row}
 use Rattle.recipes.specs.declared.types.Recipe.{Recipe}
 use Rattle.recipes.specs.declared.types.Refused.{Refused}
-use Rattle.recipes.specs.Text.{Written, written, writing, ascii, decimalIn, decimalOf}
+use Rattle.text.specs.Text.{ascii, decimalOf}
 use Rattle.recipes.specs.Recipe.{numberOf, isNothing}
 use Rattle.recipes.specs.Reader.{readOf}
 use Rattle.recipes.specs.Listing.{translateOf, blanks, clocksOf}
 use Rattle.recipes.specs.Printer.{printMax, operationText, sizeText, registerText, countText, sourceText, destinationText, stepText, stepsText, listingText, refusalText, printedOf, answerOf}
+use Rattle.text.proofs.Values.{decimal-short}
 use Rattle.recipes.proofs.Settling.{blanks-count}
 
 -- ---- parts of a line
-
-decimal-short : (f n : ℕ) → length (decimalIn f n) ≤ f
-unfolding decimalIn
-decimal-short zero n = omega arith
-decimal-short (suc f) n = go (ltb n 10) (decimal-short f (n / 10))
-  where
-    go : (t : Bool) → length (decimalIn f (n / 10)) ≤ f → length (cond t ((48 + n) ∷ []) (decimalIn f (n / 10) ++ ((48 + n % 10) ∷ []))) ≤ suc f
-    go true h = omega arith
-    go false h = rw length-append (omega arith)
 
 -- each name of the table has at most four letters
 name-short : ℕ → Row → Bool
@@ -57,7 +46,7 @@ size-short Long = omega arith
 
 -- a mark and a number
 marked-short : (mark n : ℕ) → length (mark ∷ decimalOf n) ≤ 21
-marked-short mark n = let h = decimal-short 20 n in omega arith
+marked-short mark n = let h = decimal-short n in omega arith
 
 register-short : (r : Register) → length (registerText r) ≤ 21
 register-short (Register.Data r) = marked-short 68 (r .0)
@@ -90,7 +79,7 @@ destination-short (Chk p q) = marked-short 68 (q .0)
 step-short : (p : ℕ) (k : Step) → length (stepText p k) ≤ 72
 unfolding stepText
 step-short p k =
-    let a = decimal-short 20 p in
+    let a = decimal-short p in
     let b = operation-short (k .form) in
     let c = size-short (k .size) in
     let d = source-short (k .form) in
@@ -138,23 +127,3 @@ answer-short text = go (isNothing (readOf text .refused))
     go : (t : Bool) → length (cond t (printedOf (readOf text .recipe)) (refusalText (readOf text .refused))) ≤ printMax
     go true = printed-short (readOf text .recipe)
     go false = let short = refusal-short (readOf text .refused) in omega arith
-
--- ---- what is written
-
--- what was written is a count of the slice
-pub counted : (o s p : List ℕ) (r : ℕ) → written p r ≡ writing o s → Counts r p
-unfolding writing
-counted o s p r e =
-    let bytes : p ≡ take (length o) s ++ drop (length s) o = ap (λ (w : Written). w .bytes) e in
-    let next : r ≡ min (length s) (length o) = ap (λ (w : Written). w .count) e in
-    let long : length p ≡ min (length o) (length s) + (length o - length s) = ap length bytes ∙ rw (length-append, length-take, length-drop) in
-    let h : r ≤ length p = omega arith in
-    (h, sym (length-take-le r p h))
-
-pub whole-written : (o s p : List ℕ) (r : ℕ) → written p r ≡ writing o s → length s ≤ length o → take r p ≡ s
-unfolding writing
-whole-written o s p r e h =
-    let bytes : p ≡ take (length o) s ++ drop (length s) o = ap (λ (w : Written). w .bytes) e in
-    let next : r ≡ min (length s) (length o) = ap (λ (w : Written). w .count) e in
-    let all : length s ≡ r = omega arith in
-    rw (bytes, take-all (length o) s h) (take-at s (drop (length s) o) r all)

@@ -5,10 +5,10 @@
 --     listing-append  the listing of lines and more lines is the one and then the other
 use Prim.Native.Nat.{ℕ, zero, suc, _+_, _*_, _≤_, _<_}
 use mathlib.Core.Bool.{Bool, true, false, cond}
-use mathlib.Core.List.{List, [], _∷_, _++_, append-assoc}
+use mathlib.Core.List.{List, [], _∷_, _++_, append-assoc, map}
 use mathlib.Core.Path.{_≡_, refl, sym, ap, _∙_}
 use native.Mathlib.Omega.{arith}
-use lib.ListN.{length, take, getD, length-append}
+use lib.ListN.{length, take, getD, length-append, length-map}
 use lib.Seq.{take-append-add}
 use Rattle.step.specs.declared.forms.Step.{Step}
 use Rattle.recipes.specs.declared.types.Verb.{Verb}
@@ -100,3 +100,7 @@ unfolding stepsOf
 steps-prefix w zero ls = omega arith
 steps-prefix w (suc n) [] = omega arith
 steps-prefix w (suc n) (l ∷ ls) = let h = steps-prefix w n ls in omega arith
+
+-- what owning an array of structs tells of its list
+pub mapped : (X Y : Type 0) (f : X → Y) (l : List X) (n : ℕ) → length (map f l) ≡ n → length l ≡ n
+mapped X Y f l n e = sym (length-map l f) ∙ e

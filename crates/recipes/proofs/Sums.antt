@@ -10,9 +10,9 @@ use Rattle.alu.specs.Sums.{on, Row, atBoth, always, every}
 use Rattle.alu.specs.Sums as Alu
 use Rattle.alu.proofs.Sums as Proved
 use Rattle.step.specs.Run.{runOf}
-use Rattle.recipes.specs.Text.{ascii, sameBytes, before, after}
+use Rattle.text.specs.Text.{ascii, sameBytes, before, after, digitOf}
 use Rattle.recipes.specs.Recipe.{lineChecked}
-use Rattle.recipes.specs.Reader.{verbOf, digitOf, lineOf, linesOf, widthLine, readOf}
+use Rattle.recipes.specs.Reader.{verbOf, lineOf, linesOf, widthLine, readOf}
 use Rattle.recipes.specs.Listing.{risingRest, lineSteps, listingOf, stepsOf, linesPass, translateOf}
 use Rattle.recipes.specs.Sums.{Sum, single, recipe, sums, ranFrom, holdsAt, holds}
 

@@ -1,5 +1,4 @@
 -- In the order to be read. The last has terms of private contracts alone.
-pub mod Text
 pub mod Recipe
 pub mod Rule
 pub mod Reader

@@ -1,4 +1,4 @@
--- Terms of private functions' contracts: the search for a byte, writing, the translator's parts, and what a run tells of the flags. No contract of a
+-- Terms of private functions' contracts: an operand's field, the translator's parts, and what a run tells of the flags. No contract of a
 -- public function names anything of this page, and a reader can leave it out. Assumes nothing.
 use mathlib.Core.Path.{_≡_}
 use mathlib.Core.Bool.{Bool, true, false, cond}
@@ -21,36 +21,11 @@ use Rattle.recipes.specs.declared.types.Codes.{Codes}
 use Rattle.recipes.specs.declared.types.Codes.the-variants.{Open, Known}
 use Rattle.recipes.specs.declared.printer.Operand.{Operand}
 use Rattle.recipes.specs.declared.printer.Operand.the-variants.{Numbered, Absent}
-use Rattle.recipes.specs.Text.{before, after, parts, ascii, decimalOf}
+use Rattle.text.specs.Text.{before, after, parts, ascii, decimalOf}
 use Rattle.recipes.specs.Recipe.{atLine, noRefusal, wayOf, recipeLines, Names, Accepted}
 use Rattle.recipes.specs.Listing.{firstStep, otherStep, withClr, highestFirst, stepsAt, stepsOf, linesPass, tested}
 
--- ---- the search for a byte
-
--- the bytes of xs from a on, as `&xs[a..]` has them
-abbrev pub from : ℕ → List ℕ → List ℕ
-from a xs = take (length xs - a) (drop a xs)
-
--- i is where b stands first in xs, or the length of xs where it doesn't; so it tells the parts
-pub record First (b : ℕ) (xs : List ℕ) (i : ℕ) : Type 0 where
-  pub within : i ≤ length xs
-  pub counted : i ≡ length (take i xs)
-  pub front : before b xs ≡ take i xs
-  pub some : i < length xs → after b xs ≡ parts b (from (i + 1) xs)
-  pub none : length xs ≤ i → after b xs ≡ []
-  pub whole : length xs ≤ i → before b xs ≡ xs
-
--- ---- writing
-
--- the place after n bytes from `at` on, in a slice of length `room`
-abbrev pub reach : (at n room : ℕ) → ℕ
-reach at n room = max at (min (at + n) room)
-
--- A text is stored from `at` on, as far as there is room, and the rest of the slice stays; r is the next place. (`sets` stores element by element, and
--- a store past the end changes nothing.)
-pub record Wrote (old : List ℕ) (at : ℕ) (text : List ℕ) (out : List ℕ) (r : ℕ) : Type 0 where
-  pub bytes : out ≡ sets old at text
-  pub next : r ≡ reach at (length text) (length old)
+-- ---- printing
 
 -- an operand's field: a mark and a number, or none
 abbrev pub operandText : Operand → List ℕ

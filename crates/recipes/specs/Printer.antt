@@ -17,7 +17,7 @@ use Rattle.recipes.specs.declared.types.Recipe.{Recipe}
 use Rattle.recipes.specs.declared.types.Refused.{Refused}
 use Rattle.recipes.specs.declared.types.Listing.{Listing}
 use Rattle.recipes.specs.declared.types.Reading.{Reading}
-use Rattle.recipes.specs.Text.{ascii, decimalOf}
+use Rattle.text.specs.Text.{ascii, decimalOf}
 use Rattle.recipes.specs.Recipe.{numberOf, isNothing}
 use Rattle.recipes.specs.Reader.{readOf}
 use Rattle.recipes.specs.Listing.{clocksOf, translateOf, blanks}

@@ -13,11 +13,11 @@ use Rattle.recipes.specs.declared.types.Refusal.the-variants.{WidthLine,
 use Rattle.recipes.specs.declared.types.Refused.{Refused}
 use Rattle.recipes.specs.declared.reader.VerbRead.{VerbRead}
 use Rattle.recipes.specs.declared.reader.VerbRead.the-variants.{Known, Unknown}
-use Rattle.recipes.specs.declared.reader.Digit.{Digit}
-use Rattle.recipes.specs.declared.reader.Digit.the-variants.{Is, Bad}
+use Rattle.text.specs.declared.types.Digit.{Digit}
+use Rattle.text.specs.declared.types.Digit.the-variants.{Is, Bad}
 use Rattle.recipes.specs.declared.lines.LineRead.{LineRead}
 use Rattle.recipes.specs.declared.lines.LineRead.the-variants.{Read, Slip}
-use Rattle.recipes.specs.Text.{ascii, sameBytes, before, after}
+use Rattle.text.specs.Text.{ascii, sameBytes, before, after, digitOf}
 use Rattle.recipes.specs.Recipe.{linesMax, takesTwo, isWidth, unused, lineChecked, atLine, noRefusal}
 
 -- ---- answers
@@ -51,14 +51,6 @@ verbOf word =
     (cond (sameBytes word (ascii "down")) (Known Down)
     (cond (sameBytes word (ascii "up")) (Known Up)
     Unknown))))))))
-
--- a byte as a decimal digit, 48 to 57
-abbrev pub byteDigit : ℕ → Digit
-byteDigit d = cond (ltb d 48) Bad (cond (ltb 57 d) Bad (Is (d - 48)))
-
--- a field as one digit
-unfoldable pub digitOf : List ℕ → Digit
-digitOf field = cond (eqb (length field) 1) (byteDigit (getD field 0 0)) Bad
 
 -- ---- a line, without its byte 10: its first field is the verb, the others are numbers. Any other shape is 5
 

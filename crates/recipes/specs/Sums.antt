@@ -12,7 +12,7 @@ use Rattle.step.specs.declared.registers.State.{State}
 use Rattle.step.specs.declared.runs.Ran.{Ran}
 use Rattle.step.specs.Perform.{performOf}
 use Rattle.step.specs.Run.{runOf}
-use Rattle.recipes.specs.Text.{ascii}
+use Rattle.text.specs.Text.{ascii}
 use Rattle.recipes.specs.Recipe.{isNothing}
 use Rattle.recipes.specs.Reader.{readOf}
 use Rattle.recipes.specs.Listing.{stepsMax, translateOf, blanks}

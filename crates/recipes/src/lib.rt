@@ -8,6 +8,5 @@ pub mod lines;
 pub mod printer;
 pub mod reader;
 pub mod runner;
-mod text;
 pub mod translator;
 pub mod types;

@@ -1,22 +1,13 @@
 // Printing a step, a listing or a refusal into a lent slice. A printer answers how many bytes it wrote, a `put_..` the next
 // place; what has no room is left off.
 ghost use mathlib.Core.Path.{_≡_};
-ghost use mathlib.Core.Bool.{cond};
 ghost use mathlib.Core.List.{_∷_, _++_};
-ghost use lib.Dec.{ltb};
 ghost use lib.ListN.{take};
-ghost use Rattle.recipes.specs.Text.{before, written, writing};
-ghost use Rattle.recipes.specs.Making.{Wrote, operandText};
+ghost use Rattle.text.specs.Text.{before};
+ghost use Rattle.text.specs.Wrote.{written, writing, Wrote};
+ghost use Rattle.recipes.specs.Making.{operandText};
 ghost use Rattle.recipes.specs.Printer.{operationText, sizeText, registerText, countText, sourceText, destinationText, stepText, stepsText, fieldOf, newline};
 ghost use Rattle.recipes.specs.Printer.{listingText, refusalText};
-use super::text::BLANK;
-use super::text::NEWLINE;
-use super::text::TAB;
-use super::text::first;
-use super::text::put_byte;
-use super::text::put_bytes;
-use super::text::put_decimal;
-use super::text::put_number;
 use super::translator::clocks;
 use super::types::Refused;
 use super::types::number;
@@ -27,6 +18,15 @@ use step::forms::Register;
 use step::forms::Step;
 use step::forms::operation_of;
 use step::runs::SLOTS;
+use step::runs::lesser;
+use text::parts::first;
+use text::types::BLANK;
+use text::types::NEWLINE;
+use text::types::TAB;
+use text::writers::put_byte;
+use text::writers::put_bytes;
+use text::writers::put_decimal;
+use text::writers::put_number;
 
 // The names of the operations by number, each filled up with blanks to four bytes (as the size letters below).
 const NAMES: [u8; 120] = *b"\
@@ -154,12 +154,6 @@ fn put_steps(out: &mut [u8], at: usize, steps: [Step; SLOTS], count: usize) -> u
     next
 }
 
-fn lesser(a: usize, b: usize) -> usize
-    ensures { λ r. ⌜ r ≡ cond (ltb a b) a b ⌝ }
-{
-    if a < b { a } else { b }
-}
-
 // The first line of what is printed: a word and two numbers.
 fn put_head(out: &mut [u8], word: &[u8], a: u64, b: u64) -> usize
     ensures { λ r. ⌜ Wrote (now (out .entry)) 0 (now (word .entry) ++ (fieldOf a ++ (fieldOf b ++ newline))) (now (out .exit)) r ⌝ }
@@ -172,14 +166,14 @@ fn put_head(out: &mut [u8], word: &[u8], a: u64, b: u64) -> usize
 
 // Prints a step as a line of a listing, at a place.
 pub fn print_step(place: u64, step: Step, out: &mut [u8]) -> usize
-    ensures { λ r. ⌜ written (now (out .exit)) r ≡ writing (now (out .entry)) (stepText place step) ⌝ }
+    ensures { λ r. ⌜ written (now (out .exit)) r ≡ writing (now (out .entry)) 0 (stepText place step) ⌝ }
 {
     put_step(out, 0, place, step)
 }
 
 // Prints the first `count` steps of a listing; a count above `SLOTS` means all of them.
 pub fn print(width: u8, steps: [Step; SLOTS], count: usize, out: &mut [u8]) -> usize
-    ensures { λ r. ⌜ written (now (out .exit)) r ≡ writing (now (out .entry)) (listingText width (take count steps)) ⌝ }
+    ensures { λ r. ⌜ written (now (out .exit)) r ≡ writing (now (out .entry)) 0 (listingText width (take count steps)) ⌝ }
 {
     let many = lesser(count, SLOTS);
     let sum = clocks(steps, count);
@@ -192,7 +186,7 @@ pub fn print(width: u8, steps: [Step; SLOTS], count: usize, out: &mut [u8]) -> u
 
 // Prints a refusal: `refused`, its number and its line.
 pub fn print_refusal(refused: Refused, out: &mut [u8]) -> usize
-    ensures { λ r. ⌜ written (now (out .exit)) r ≡ writing (now (out .entry)) (refusalText refused) ⌝ }
+    ensures { λ r. ⌜ written (now (out .exit)) r ≡ writing (now (out .entry)) 0 (refusalText refused) ⌝ }
 {
     let refusal = refused.refusal;
     let n = number(refusal);

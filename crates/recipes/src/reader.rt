@@ -5,17 +5,13 @@ ghost use mathlib.Core.Bool.{cond};
 ghost use mathlib.Core.List.{[]};
 ghost use lib.ListN.{replicate};
 ghost use Rattle.recipes.specs.declared.reader.VerbRead.the-variants.{Known};
-ghost use Rattle.recipes.specs.Text.{before, after, parts, sameBytes};
+ghost use Rattle.text.specs.Text.{before, after, parts, sameBytes};
 ghost use Rattle.recipes.specs.Recipe.{linesMax, unused};
-ghost use Rattle.recipes.specs.Reader.{verbOf, digitOf, onlyDigit, oneField, twoFields, fieldsOf, lineOf, readingOf, refusedAt, linesOf, widthDigit, widthLine, readOf};
+ghost use Rattle.recipes.specs.Reader.{verbOf, onlyDigit, oneField, twoFields, fieldsOf, lineOf, readingOf, refusedAt, linesOf, widthDigit, widthLine, readOf};
 use super::lines::LineRead;
 use super::lines::check_line;
 use super::lines::is_width;
 use super::lines::takes_two;
-use super::text::NEWLINE;
-use super::text::TAB;
-use super::text::first;
-use super::text::same;
 use super::types::LINES_MAX;
 use super::types::Line;
 use super::types::Reading;
@@ -25,17 +21,17 @@ use super::types::Refused;
 use super::types::Verb;
 use super::types::at_line;
 use super::types::no_refusal;
+use text::numbers::digit_of;
+use text::parts::first;
+use text::parts::same;
+use text::types::Digit;
+use text::types::NEWLINE;
+use text::types::TAB;
 
 // What a word in the verb's place is.
 pub(crate) enum VerbRead {
     Known(Verb),
     Unknown,
-}
-
-// What a field in a number's place is.
-pub(crate) enum Digit {
-    Is(u8),
-    Bad,
 }
 
 // `verb` where the word is its name, and otherwise what was found among the other verbs.
@@ -62,23 +58,6 @@ fn verb_of(word: &[u8]) -> VerbRead
     let found = or_verb(word, b"add", Verb::Add, found);
     let found = or_verb(word, b"copy", Verb::Copy, found);
     or_verb(word, b"clear", Verb::Clear, found)
-}
-
-// A field that is one digit.
-fn digit_of(field: &[u8]) -> Digit
-    ensures { λ r. ⌜ r ≡ digitOf (now (field .entry)) ⌝ }
-{
-    if field.len() != 1 {
-        return Digit::Bad;
-    }
-    let d = field[0];
-    if d < b'0' {
-        return Digit::Bad;
-    }
-    if b'9' < d {
-        return Digit::Bad;
-    }
-    Digit::Is(d - b'0')
 }
 
 // The digit that is the only field.

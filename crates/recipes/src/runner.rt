@@ -7,7 +7,7 @@ ghost use Rattle.recipes.specs.Recipe.{linesMax};
 ghost use Rattle.recipes.specs.Demand.{untouched, recipeRunOf, textRunOf};
 ghost use Rattle.recipes.specs.Making.{codesAfter};
 ghost use Rattle.recipes.specs.Printer.{printedOf, answerOf};
-ghost use Rattle.recipes.specs.Text.{written, writing};
+ghost use Rattle.text.specs.Wrote.{written, writing};
 use super::lines::way_of;
 use super::printer::print;
 use super::printer::print_refusal;
@@ -104,7 +104,7 @@ pub fn run_text(text: &[u8], state: State) -> RecipeRun
 
 // Prints a recipe's listing, or why it has none.
 pub fn print_recipe(recipe: Recipe, out: &mut [u8]) -> usize
-    ensures { λ r. ⌜ written (now (out .exit)) r ≡ writing (now (out .entry)) (printedOf recipe) ⌝ }
+    ensures { λ r. ⌜ written (now (out .exit)) r ≡ writing (now (out .entry)) 0 (printedOf recipe) ⌝ }
 {
     let width = recipe.width;
     let made = translate_array(recipe);
@@ -119,7 +119,7 @@ pub fn print_recipe(recipe: Recipe, out: &mut [u8]) -> usize
 
 // What the program `recipe` prints for a text.
 pub fn answer(text: &[u8], out: &mut [u8]) -> usize
-    ensures { λ r. ⌜ written (now (out .exit)) r ≡ writing (now (out .entry)) (answerOf (now (text .entry))) ⌝ }
+    ensures { λ r. ⌜ written (now (out .exit)) r ≡ writing (now (out .entry)) 0 (answerOf (now (text .entry))) ⌝ }
 {
     let reading = read(text);
     let refused = reading.refused;

@@ -115,7 +115,7 @@ pub fn number(refusal: Refusal) -> u8
 }
 
 // Every refusal is made here.
-pub(crate) fn at_line(refusal: Refusal, line: usize) -> Refused
+pub fn at_line(refusal: Refusal, line: usize) -> Refused
     ensures { λ r. ⌜ r ≡ atLine refusal line ⌝ }
 {
     Refused { refusal, line }

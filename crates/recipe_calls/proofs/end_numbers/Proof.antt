@@ -9,6 +9,6 @@ end-numbers-spec =
     tie.close
     (tie.spec
     (λ c. search needs) (λ c. search needs) (λ c. search needs) (λ c. search needs) (λ c. search needs) (λ c. search needs) (λ c. search needs)
-    (λ c. search needs) (λ c. search needs) (λ c. search needs)
-    (λ c. rw (c .before .before .before .end .given .1, c .long .ensures, c .before .class .ensures))
-    (λ c. rw (c .before .before .before .end2 .given .1, c .long2 .ensures, c .before .number .ensures)))
+    (λ c. search needs)
+    (λ c. rw (c .before .before .end .given .1, c .class .ensures))
+    (λ c. rw (c .before .before .end2 .given .1, c .number .ensures)))

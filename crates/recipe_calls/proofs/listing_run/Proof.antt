@@ -6,10 +6,9 @@ use Rattle.recipe_calls.proofs.listing_run.Tie as tie
 
 returns : tie.Need-returns
 returns c =
-    let f = c .before .before in
+    let f = c .before in
     let r = f .before .before .before .before .before .before in
     rw (
-      c .before .long .ensures,
       f .ccr .ensures,
       f .before .before .before .before .before .end-numbers .ensures,
       end-told,
@@ -23,4 +22,4 @@ listing-run-spec =
     tie.close
     (tie.spec
     (λ c. search needs) (λ c. search needs) (λ c. search needs) (λ c. search needs) (λ c. search needs) (λ c. search needs) (λ c. search needs)
-    (λ c. search needs) (λ c. search needs) returns)
+    (λ c. search needs) returns)

@@ -6,10 +6,10 @@ use Rattle.bench.proofs.table.put_rows.Statement.{statement}
 use Rattle.bench.proofs.table.put_rows.Tie as tie
 
 abbrev Inv-loop : tie.InvT-loop
-Inv-loop out₀ at text printed recipe made steps next₀ ran₀ left₀ out next ran left = length out ≡ length out₀
+Inv-loop out₀ at text recipe made steps next₀ ran₀ left₀ out next ran left = length out ≡ length out₀
 
 abbrev μ-loop : tie.MeasureT-loop
-μ-loop out₀ at text printed recipe made steps next₀ ran₀ left₀ out next ran left = left
+μ-loop out₀ at text recipe made steps next₀ ran₀ left₀ out next ran left = left
 
 pub put-rows-spec : {M : Type 1} → statement M
 put-rows-spec =

@@ -3,7 +3,7 @@ use mathlib.Core.Path.{_≡_, refl, ap, _∙_}
 use Prim.Native.Nat.{ℕ, _-_, _<_, _≤_}
 use mathlib.Core.List.{List, map}
 use lib.ListN.{length, take, set, length-set}
-use Rattle.recipes.proofs.Writing.{mapped}
+use Rattle.recipes.proofs.Steps.{mapped}
 use Rattle.recipes.specs.Listing.{over}
 use Rattle.recipe_calls.specs.Words.{stepWord}
 use Rattle.recipe_calls.proofs.Turns.{put, taken, nop}

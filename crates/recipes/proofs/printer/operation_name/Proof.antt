@@ -10,8 +10,8 @@ use borrow.Author.Needs.{needs}
 use Rattle.step.specs.declared.forms.Operation.{Operation}
 use Rattle.step.specs.Operations.{Row, operationNumber, operationName}
 use Rattle.step.proofs.Operations.{stands, each-row}
-use Rattle.recipes.specs.Text.{ascii, sameBytes, before}
-use Rattle.recipes.proofs.Texts.{same-true}
+use Rattle.text.specs.Text.{ascii, sameBytes, before}
+use Rattle.text.proofs.Texts.{same-true}
 use Rattle.recipes.proofs.printer.operation_name.Statement.{statement}
 use Rattle.recipes.proofs.printer.operation_name.Tie as tie
 

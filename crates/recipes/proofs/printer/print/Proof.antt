@@ -1,11 +1,12 @@
 -- `recipes::printer::print` meets its contract: its writers, one behind the other. Assumes nothing.
 use borrow.Author.Needs.{needs}
 use mathlib.Core.List.{append-assoc}
-use mathlib.Core.Path.{_≡_, sym, _∙_}
-use lib.ListN.{length}
+use mathlib.Core.Path.{_≡_, sym, ap, _∙_}
+use Prim.Native.Nat.{min}
+use lib.ListN.{length, length-take}
 use Rattle.recipes.specs.Printer.{listingText}
-use Rattle.recipes.proofs.Writing.{mapped, then, as-one}
-use Rattle.recipes.proofs.Printing.{take-many}
+use Rattle.text.proofs.Writing.{then}
+use Rattle.recipes.proofs.Steps.{mapped}
 use Rattle.recipes.proofs.printer.print.Statement.{statement}
 use Rattle.recipes.proofs.printer.print.Tie as tie
 use Rattle.step.specs.Run.{arraySlots}
@@ -21,9 +22,9 @@ returns c =
     let w = n .before .before .before .before in
     let s = w .before .before .before .before .before in
     let h = s .before .before .before .before in
-    let end = then (s .put-steps .ensures) (then (w .put-bytes .ensures) (then (n .put-number .ensures) (e .put-byte .ensures))) in
-    rw (← k .clocks .ensures, sym (k .before .lesser .ensures ∙ take-many (a .steps) (a .count) arraySlots long))
-    (as-one (simp append-assoc at (then (h .put-head .ensures) end)))
+    let end = then _ _ _ _ (s .put-steps .ensures) (then _ _ _ _ (w .put-bytes .ensures) (then _ _ _ _ (n .put-number .ensures) (e .put-byte .ensures))) in
+    rw (← k .clocks .ensures, sym (k .before .lesser .ensures ∙ ap (min (a .count)) (sym long) ∙ sym (length-take (a .count) (a .steps))))
+    (simp append-assoc at (then _ _ _ _ (h .put-head .ensures) end))
 
 pub print-spec : {M : Type 1} → statement M
 print-spec =

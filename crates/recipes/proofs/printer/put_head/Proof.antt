@@ -1,6 +1,6 @@
 -- `recipes::printer::put_head` meets its contract: its writers, one behind the other. Assumes nothing.
 use borrow.Author.Needs.{needs}
-use Rattle.recipes.proofs.Writing.{then}
+use Rattle.text.proofs.Writing.{then}
 use Rattle.recipes.proofs.printer.put_head.Statement.{statement}
 use Rattle.recipes.proofs.printer.put_head.Tie as tie
 
@@ -10,7 +10,7 @@ returns c =
     let n = p .before .before .before .before in
     let m = n .before .before .before .before in
     let w = m .before .before .before .before in
-    then (w .put-bytes .ensures) (then (m .put-number .ensures) (then (n .put-number2 .ensures) (p .put-byte .ensures)))
+    then _ _ _ _ (w .put-bytes .ensures) (then _ _ _ _ (m .put-number .ensures) (then _ _ _ _ (n .put-number2 .ensures) (p .put-byte .ensures)))
 
 pub put-head-spec : {M : Type 1} → statement M
 put-head-spec = tie.close (tie.spec (search needs) (search needs) (search needs) (search needs) (search needs) returns)

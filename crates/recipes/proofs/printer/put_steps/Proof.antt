@@ -5,9 +5,10 @@ use native.Mathlib.Omega.{arith}
 use lib.Seq.{take-all}
 use lib.ListN.{length, take}
 use borrow.Author.Needs.{needs}
-use Rattle.recipes.specs.Making.{Wrote}
+use Rattle.text.specs.Wrote.{Wrote}
 use Rattle.recipes.specs.Printer.{stepsText}
-use Rattle.recipes.proofs.Writing.{mapped, wrote-none, wrote-length, then}
+use Rattle.text.proofs.Writing.{wrote-none, wrote-length, then}
+use Rattle.recipes.proofs.Steps.{mapped}
 use Rattle.recipes.proofs.Printing.{steps-next}
 use Rattle.recipes.proofs.printer.put_steps.Statement.{statement}
 use Rattle.recipes.proofs.printer.put_steps.Tie as tie
@@ -25,7 +26,7 @@ unfolding stepsText
 loop-holds c = let h : length (c .before .args .t3) ≡ arraySlots = search mapped in (search needs, search needs, h, wrote-none _ _)
 
 same-length : tie.Need-same-length Inv-loop μ-loop
-same-length c = wrote-length (c .before .before .loop .inv .3)
+same-length c = wrote-length _ _ _ (c .before .before .loop .inv .3)
 
 returns : tie.Need-returns Inv-loop μ-loop
 returns c = let l = c .before .before .loop in let e : l .k ≡ c .before .before .before .before .args .count = omega arith in rw e at (l .inv .3)
@@ -36,10 +37,10 @@ loop-again c =
     let e = p .before .before .before in
     let l = e .before .before .loop in
     let h : l .k < length (e .before .before .before .before .args .t3) = search needs in
-    (search needs, search needs, l .inv .2, rw (steps-next _ _ h) (then (l .inv .3) (p .put-step .ensures)))
+    (search needs, search needs, l .inv .2, rw (steps-next _ _ h) (then _ _ _ _ (l .inv .3) (p .put-step .ensures)))
 
 same-length-2 : tie.Need-same-length-2 Inv-loop μ-loop
-same-length-2 c = wrote-length (c .before .loop .inv .3)
+same-length-2 c = wrote-length _ _ _ (c .before .loop .inv .3)
 
 returns-2 : tie.Need-returns-2 Inv-loop μ-loop
 returns-2 c =

@@ -1,6 +1,6 @@
 -- `recipes::printer::size_name` meets its contract, arm by arm: the letters before the first blank are the name. Assumes nothing.
 use borrow.Author.Needs.{needs}
-use Rattle.recipes.specs.Text.{before}
+use Rattle.text.specs.Text.{before}
 use Rattle.recipes.proofs.printer.size_name.Statement.{statement}
 use Rattle.recipes.proofs.printer.size_name.Tie as tie
 

@@ -3,18 +3,26 @@
 use mathlib.Core.Path.{sym}
 use borrow.Author.Needs.{needs}
 use Rattle.recipes.specs.Recipe.{takesTwo}
-use Rattle.recipes.proofs.Texts.{cond-same}
+use Rattle.text.proofs.Texts.{first-by}
+use Rattle.recipes.proofs.Accepting.{cond-same}
 use Rattle.recipes.proofs.reader.read_fields.Statement.{statement}
 use Rattle.recipes.proofs.reader.read_fields.Tie as tie
 
+slice-aggregate-verb-of : tie.Need-slice-aggregate-verb-of
+slice-aggregate-verb-of c =
+    let f = first-by (c .before .first .ensures) in
+    let within = f .within in
+    let counted = f .counted in
+    search needs
+
 returns : tie.Need-returns
-returns c = let v = c .before .before in rw (v .before .before .first .ensures .1 .front, ← v .verb-of .ensures, c .enum-told .given .1)
+returns c = let v = c .before .before in rw (first-by (v .before .before .first .ensures) .front, ← v .verb-of .ensures, c .enum-told .given .1)
 
 returns-2 : tie.Need-returns-2
 returns-2 c =
     let k = c .before .before in
     let v = k .before .before in
-    let f = v .before .before .first .ensures .1 in
+    let f = first-by (v .before .before .first .ensures) in
     rw (f .front, ← v .verb-of .ensures, k .verb .given .1, f .none (c .if1 .taken)) (sym (cond-same (takesTwo (k .verb .given .0 .0)) _))
 
 returns-3 : tie.Need-returns-3
@@ -22,7 +30,7 @@ returns-3 c =
     let e = c .before .before .before .before in
     let k = e .before .before in
     let v = k .before .before in
-    let f = v .before .before .first .ensures .1 in
+    let f = first-by (v .before .before .first .ensures) in
     rw (f .front, ← v .verb-of .ensures, k .verb .given .1, f .some (e .if1 .left), ← c .before .before .takes-two .ensures, c .before .if2 .taken) (c .read-two .ensures)
 
 returns-4 : tie.Need-returns-4
@@ -30,12 +38,12 @@ returns-4 c =
     let e = c .before .before .before .before in
     let k = e .before .before in
     let v = k .before .before in
-    let f = v .before .before .first .ensures .1 in
+    let f = first-by (v .before .before .first .ensures) in
     rw (f .front, ← v .verb-of .ensures, k .verb .given .1, f .some (e .if1 .left), ← c .before .before .takes-two .ensures, c .before .if2 .left) (c .read-one .ensures)
 
 pub read-fields-spec : {M : Type 1} → statement M
 read-fields-spec =
     tie.close
     (tie.spec
-    (search needs) (search needs) (search needs) (search needs) (search needs) returns returns-2 (search needs) (search needs) (search needs)
+    (search needs) slice-aggregate-verb-of (search needs) (search needs) (search needs) returns returns-2 (search needs) (search needs) (search needs)
     (search needs) (search needs) (search needs) (search needs) returns-3 returns-4)

@@ -8,9 +8,10 @@ use lib.ListN.{length, length-append}
 use borrow.Author.Needs.{needs}
 use Rattle.recipes.specs.declared.types.Line.{Line}
 use Rattle.recipes.specs.Reader.{padded, orSlip, linesOf}
-use Rattle.recipes.specs.Text.{before, after}
-use Rattle.recipes.specs.Making.{from}
+use Rattle.text.specs.Text.{before, after}
+use Rattle.text.proofs.Texts.{from}
 use Rattle.recipes.specs.Recipe.{linesMax}
+use Rattle.text.proofs.Texts.{first-by}
 use Rattle.recipes.proofs.LineByLine.{lines-many, lines-cut, lines-next, lines-done, padded-more}
 use Rattle.recipes.proofs.reader.read_lines.Statement.{statement}
 use Rattle.recipes.proofs.reader.read_lines.Tie as tie
@@ -50,10 +51,17 @@ turn c =
     let f = c .before .before .before in
     let s = f .before .before .before .loop .inv in
     let r = room (f .before) in
-    rw (s .rest, f .first .ensures .1 .some (c .before .before .if2 .left), lines-next, f .first .ensures .1 .front, ← c .read-line .ensures, ← s .many)
+    rw (s .rest, first-by (f .first .ensures) .some (c .before .before .if2 .left), lines-next, first-by (f .first .ensures) .front, ← c .read-line .ensures, ← s .many)
 
 loop-holds : tie.Need-loop-holds Inv-loop μ-loop
 loop-holds c = record { ls = []; many = refl; within = search needs; short = search needs; stored = c .no-lines .ensures; rest = refl }
+
+slice-aggregate-read-line : tie.Need-slice-aggregate-read-line Inv-loop μ-loop
+slice-aggregate-read-line c =
+    let f = first-by (c .before .before .first .ensures) in
+    let within = f .within in
+    let counted = f .counted in
+    search needs
 
 returns : tie.Need-returns Inv-loop μ-loop
 returns c =
@@ -66,7 +74,7 @@ returns-2 c =
     let f = c .before .before in
     let s = f .before .before .before .loop .inv in
     let h = c .before .if2 .taken in
-    rw (s .rest, f .first .ensures .1 .none h, f .first .ensures .1 .whole h, lines-cut _ _ _ (f .before .before .loop-test .taken) (room (f .before)), ← s .many) (c .refused-at2 .ensures)
+    rw (s .rest, first-by (f .first .ensures) .none h, first-by (f .first .ensures) .whole h, lines-cut _ _ _ (f .before .before .loop-test .taken) (room (f .before)), ← s .many) (c .refused-at2 .ensures)
 
 returns-3 : tie.Need-returns-3 Inv-loop μ-loop
 returns-3 c = let k = c .before .before in rw (turn (k .before .before), k .refusal .given .1) (c .refused-at3 .ensures)
@@ -96,5 +104,5 @@ read-lines-spec =
     tie.close
     (tie.spec
     Inv-loop μ-loop (search needs) (search needs) loop-holds (search needs) (search needs) returns (search needs) (search needs) (search needs)
-    returns-2 (search needs) (search needs) (search needs) (search needs) (search needs) returns-3 (search needs) (search needs) (search needs)
+    returns-2 slice-aggregate-read-line (search needs) (search needs) (search needs) (search needs) returns-3 (search needs) (search needs) (search needs)
     (search needs) (search needs) (search needs) (search needs) (search needs) (search needs) loop-again (search needs) (search needs) returns-4)

@@ -4,9 +4,10 @@ use Prim.Native.Nat.{_+_}
 use mathlib.Core.Path.{_≡_}
 use lib.ListN.{take}
 use borrow.Author.Needs.{needs}
-use Rattle.recipes.specs.Text.{parts}
-use Rattle.recipes.specs.Making.{from}
-use Rattle.recipes.specs.Reader.{twoFields, withTwo, digitOf}
+use Rattle.text.specs.Text.{parts, digitOf}
+use Rattle.text.proofs.Texts.{from}
+use Rattle.recipes.specs.Reader.{twoFields, withTwo}
+use Rattle.text.proofs.Texts.{first-by}
 use Rattle.recipes.proofs.reader.read_two.Statement.{statement}
 use Rattle.recipes.proofs.reader.read_two.Tie as tie
 
@@ -18,13 +19,20 @@ two : (c : tie.Else2)
     ≡ withTwo (a .verb) (digitOf (take (p .first .result) (a .fields .now))) (digitOf (from (p .first .result + 1) (a .fields .now)))
 two c =
     let d = c .before .before .before in
-    rw (d .before .first .ensures .1 .some (d .if1 .left), c .before .first2 .ensures .1 .none (c .if2 .left), c .before .first2 .ensures .1 .whole (c .if2 .left), d .before .first .ensures .1 .front)
+    rw (first-by (d .before .first .ensures) .some (d .if1 .left), first-by (c .before .first2 .ensures) .none (c .if2 .left), first-by (c .before .first2 .ensures) .whole (c .if2 .left), first-by (d .before .first .ensures) .front)
+
+slice-aggregate-digit-of : tie.Need-slice-aggregate-digit-of
+slice-aggregate-digit-of c =
+    let f = first-by (c .before .before .before .before .before .first .ensures) in
+    let within = f .within in
+    let counted = f .counted in
+    search needs
 
 returns : tie.Need-returns
-returns c = rw (c .before .first .ensures .1 .none (c .if1 .taken))
+returns c = rw (first-by (c .before .first .ensures) .none (c .if1 .taken))
 
 returns-2 : tie.Need-returns-2
-returns-2 c = let d = c .before .before .before in rw (d .before .first .ensures .1 .some (d .if1 .left), c .before .first2 .ensures .1 .some (c .if2 .taken))
+returns-2 c = let d = c .before .before .before in rw (first-by (d .before .first .ensures) .some (d .if1 .left), first-by (c .before .first2 .ensures) .some (c .if2 .taken))
 
 returns-3 : tie.Need-returns-3
 returns-3 c = let d = c .before .before in rw (two (d .before .before), ← d .digit-of .ensures, c .enum-told .given .1)
@@ -45,5 +53,5 @@ pub read-two-spec : {M : Type 1} → statement M
 read-two-spec =
     tie.close
     (tie.spec
-    (search needs) returns (search needs) (search needs) (search needs) (search needs) (search needs) returns-2 (search needs) (search needs)
+    (search needs) returns (search needs) (search needs) (search needs) (search needs) (search needs) returns-2 slice-aggregate-digit-of (search needs)
     (search needs) (search needs) returns-3 (search needs) (search needs) (search needs) returns-4 returns-5)

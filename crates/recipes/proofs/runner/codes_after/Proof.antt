@@ -3,7 +3,7 @@ use borrow.Author.Needs.{needs}
 use mathlib.Core.Path.{_≡_, sym, _∙_}
 use native.Mathlib.Omega.{arith}
 use lib.ListN.{length}
-use Rattle.recipes.proofs.Writing.{mapped}
+use Rattle.recipes.proofs.Steps.{mapped}
 use Rattle.recipes.proofs.RunByRule.{codes-of}
 use Rattle.recipes.proofs.runner.codes_after.Statement.{statement}
 use Rattle.recipes.proofs.runner.codes_after.Tie as tie

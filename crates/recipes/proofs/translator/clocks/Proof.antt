@@ -6,7 +6,7 @@ use lib.Seq.{take-all}
 use lib.ListN.{length, take}
 use borrow.Author.Needs.{needs}
 use Rattle.recipes.specs.Listing.{clocksOf}
-use Rattle.recipes.proofs.Writing.{mapped}
+use Rattle.recipes.proofs.Steps.{mapped}
 use Rattle.recipes.proofs.Printing.{clocks-next}
 use Rattle.recipes.proofs.translator.clocks.Statement.{statement}
 use Rattle.recipes.proofs.translator.clocks.Tie as tie

@@ -4,7 +4,7 @@ use mathlib.Core.Path.{_≡_, sym, _∙_}
 use native.Mathlib.Omega.{arith}
 use lib.ListN.{length}
 use borrow.Author.Needs.{needs}
-use Rattle.recipes.proofs.Writing.{mapped}
+use Rattle.recipes.proofs.Steps.{mapped}
 use Rattle.recipes.proofs.Judging.{Passed, passed-none, passed-slip, passed-more, passed-all}
 use Rattle.recipes.proofs.translator.judge_lines.Statement.{statement}
 use Rattle.recipes.proofs.translator.judge_lines.Tie as tie

@@ -4,7 +4,7 @@ use mathlib.Core.Path.{_≡_, sym, _∙_}
 use native.Mathlib.Omega.{arith}
 use lib.ListN.{length}
 use borrow.Author.Needs.{needs}
-use Rattle.recipes.proofs.Writing.{mapped}
+use Rattle.recipes.proofs.Steps.{mapped}
 use Rattle.recipes.proofs.Laying.{Laid, laid-none, line-there, spot-there, step-small, laid-step, laid-line}
 use Rattle.recipes.proofs.translator.lay.Statement.{statement}
 use Rattle.recipes.proofs.translator.lay.Tie as tie

@@ -2,7 +2,7 @@
 use borrow.Author.Needs.{needs}
 use mathlib.Core.Path.{_≡_}
 use lib.ListN.{length}
-use Rattle.recipes.proofs.Writing.{mapped}
+use Rattle.recipes.proofs.Steps.{mapped}
 use Rattle.recipes.proofs.Settling.{ready, laid}
 use Rattle.recipes.proofs.translator.translate_array.Statement.{statement}
 use Rattle.recipes.proofs.translator.translate_array.Tie as tie

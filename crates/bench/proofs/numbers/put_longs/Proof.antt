@@ -1,7 +1,7 @@
--- `numbers::put_words` is safe and ends: it counts the words down. Assumes nothing.
+-- `numbers::put_longs` is safe and ends: it counts the words down. Assumes nothing.
 use borrow.Author.Needs.{needs}
-use Rattle.bench.proofs.numbers.put_words.Statement.{statement}
-use Rattle.bench.proofs.numbers.put_words.Tie as tie
+use Rattle.bench.proofs.numbers.put_longs.Statement.{statement}
+use Rattle.bench.proofs.numbers.put_longs.Tie as tie
 
 abbrev Inv-loop : tie.InvT-loop
 Inv-loop width d k low next₀ i₀ next i = Unit {0}
@@ -9,8 +9,8 @@ Inv-loop width d k low next₀ i₀ next i = Unit {0}
 abbrev μ-loop : tie.MeasureT-loop
 μ-loop width d k low next₀ i₀ next i = i
 
-pub put-words-spec : {M : Type 1} → statement M
-put-words-spec =
+pub put-longs-spec : {M : Type 1} → statement M
+put-longs-spec =
     tie.close
     (tie.spec
     Inv-loop μ-loop (search needs) (search needs) (search needs) (search needs) (search needs) (search needs) (search needs) (search needs)
