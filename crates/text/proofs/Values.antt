@@ -100,6 +100,11 @@ hex-turn (suc i) n g digits p h by =
     byte (inl w) = rw (lt-ltb (n % 16) 10 (w .0)) (w .1)
     byte (inr w) = rw (le-ltb (n % 16) 10 (w .0)) (w .1)
 
+-- one digit more of a field
+value-next : (base : ℕ) (field : List ℕ) (i : ℕ) → i < length field
+    → valueOf base (take (i + 1) field) ≡ valueOf base (take i field) * base + worthOf (getD field i 0)
+value-next base field i h = rw (add-one, take-suc field i 0 h) (value-more base 0 (take i field) (getD field i 0))
+
 -- A turn of a loop that reads digits: its number is their value as long as that is below the limit. A value below `part` keeps below it with one digit
 -- more, and no other does.
 pub value-turn :
@@ -108,8 +113,7 @@ pub value-turn :
     → n ≡ (v % part * base + worthOf (getD field i 0)) % limit
     → valueOf base (take (i + 1) field) < limit → n ≡ valueOf base (take (i + 1) field)
 value-turn base part limit some enough field i v n h agrees e less =
-    let more : valueOf base (take (i + 1) field) ≡ valueOf base (take i field) * base + worthOf (getD field i 0) =
-    rw (add-one, take-suc field i 0 h) (value-more base 0 (take i field) (getD field i 0)) in
+    let more = value-next base field i h in
     go (valueOf base (take i field)) (worthOf (getD field i 0)) agrees (rw more at less) e ∙ sym more
   where
     below : (real d : ℕ) → real * base + d < limit → Dec (part ≤ real) → real < part
