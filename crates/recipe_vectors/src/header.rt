@@ -1,16 +1,19 @@
-// The header of a vector, a line of hexadecimal fields of fixed width, parted by tabs. The recipe's text stands behind it.
+// The header of a vector, a line of 41 hexadecimal fields of eight digits, parted by tabs. The recipe's text stands behind it.
 //
-//   text length 4 | flags 2 | D0..D7 8 each | A0..A7 8 each | D0..D7 after 8 each | flags after 2 | flags promised 2 | steps 4 | clocks 4 |
-//   middle 4 | D0..D7 there 8 each | flags there 2 | flags promised there 2
+//   text length | flags | D0..D7 | A0..A7 | D0..D7 after | flags after | flags promised | steps | clocks | middle |
+//   D0..D7 there | flags there | flags promised there
 //
 // `tools/recipe-vectors` makes vectors. Flags are X 16, N 8, Z 4, V 2, C 1.
-ghost use Prim.Native.Nat.{_+_, _<_, _≤_, _^_};
+ghost use Prim.Native.Nat.{_+_, _<_, _≤_};
+ghost use lib.ListN.{length};
 use alu::types::Flags;
 use step::registers::State;
+use text::numbers::hex_of;
+use text::types::Hex;
+use text::types::NEWLINE;
+use text::types::TAB;
 
-// Where x stands a digit is wanted; any other byte is wanted itself.
-const PICTURE: [u8; 323] =
-    *b"xxxx\txx\txxxxxxxx\txxxxxxxx\txxxxxxxx\txxxxxxxx\txxxxxxxx\txxxxxxxx\txxxxxxxx\txxxxxxxx\txxxxxxxx\txxxxxxxx\txxxxxxxx\txxxxxxxx\txxxxxxxx\txxxxxxxx\txxxxxxxx\txxxxxxxx\txxxxxxxx\txxxxxxxx\txxxxxxxx\txxxxxxxx\txxxxxxxx\txxxxxxxx\txxxxxxxx\txxxxxxxx\txx\txx\txxxx\txxxx\txxxx\txxxxxxxx\txxxxxxxx\txxxxxxxx\txxxxxxxx\txxxxxxxx\txxxxxxxx\txxxxxxxx\txxxxxxxx\txx\txx\n";
+const FIELDS: usize = 41;
 
 // A place behind some of the lines, and what ought to stand there: data registers, flags and which of them count.
 pub(crate) struct Middle {
@@ -32,77 +35,74 @@ pub(crate) struct Vector {
     pub middle: Middle,
 }
 
-fn is_digit(b: u8) -> bool {
-    (b'0' <= b) & (b <= b'9') | (b'A' <= b) & (b <= b'F')
+// The eight bytes from a place on as a number.
+fn eight(head: &[u8], at: usize) -> Hex
+    requires { ⌜ at + 8 ≤ length (now head) ⌝ }
+{
+    let end = at + 8;
+    hex_of(&head[at..end])
 }
 
-fn fits(wanted: u8, b: u8) -> bool {
-    if wanted == b'x' {
-        is_digit(b)
-    } else {
-        b == wanted
+// Field k.
+fn field(head: &[u8; 369], k: usize) -> Hex
+    requires { ⌜ k < 41 ⌝ }
+{
+    eight(head, k * 9)
+}
+
+// Whether field k is one, with its tab or line end behind it.
+fn is_field(head: &[u8; 369], k: usize) -> bool
+    requires { ⌜ k < 41 ⌝ }
+{
+    let behind = head[k * 9 + 8];
+    let wanted = if k + 1 < FIELDS { TAB } else { NEWLINE };
+    match field(head, k) {
+        Hex::Is(_) => behind == wanted,
+        Hex::Bad => false,
     }
 }
 
-pub(crate) fn is_header(head: &[u8; 323]) -> bool {
-    let mut i = 0;
-    while i < 323 {
-        if !fits(PICTURE[i], head[i]) {
+pub(crate) fn is_header(head: &[u8; 369]) -> bool {
+    let mut k = 0;
+    while k < FIELDS {
+        if !is_field(head, k) {
             return false;
         }
-        i += 1;
+        k += 1;
     }
     true
 }
 
-// A digit's value; of another byte some number, but a header has none there.
-fn digit(b: u8) -> u32
-    ensures { λ r. ⌜ r < 16 ⌝ }
+// The number of a field; 0 of what is none, but a header has none such.
+fn number(head: &[u8; 369], k: usize) -> u32
+    requires { ⌜ k < 41 ⌝ }
 {
-    let low = b as u32 % 16;
-    if b < 64 { low } else { (low + 9) % 16 }
-}
-
-fn two(head: &[u8; 323], at: usize) -> u32
-    requires { ⌜ at + 2 ≤ 323 ⌝ }
-    ensures { λ r. ⌜ r < 2 ^ 8 ⌝ }
-{
-    digit(head[at]) * 16 + digit(head[at + 1])
-}
-
-fn four(head: &[u8; 323], at: usize) -> u32
-    requires { ⌜ at + 4 ≤ 323 ⌝ }
-    ensures { λ r. ⌜ r < 2 ^ 16 ⌝ }
-{
-    two(head, at) * 0x100 + two(head, at + 2)
-}
-
-fn eight(head: &[u8; 323], at: usize) -> u32
-    requires { ⌜ at + 8 ≤ 323 ⌝ }
-{
-    four(head, at) * 0x1_0000 + four(head, at + 4)
+    match field(head, k) {
+        Hex::Is(value) => value,
+        Hex::Bad => 0,
+    }
 }
 
 // Eight registers.
-fn row(head: &[u8; 323], at: usize) -> [u32; 8]
-    requires { ⌜ at + 72 ≤ 323 ⌝ }
+fn row(head: &[u8; 369], k: usize) -> [u32; 8]
+    requires { ⌜ k + 8 ≤ 41 ⌝ }
 {
     [
-        eight(head, at),
-        eight(head, at + 9),
-        eight(head, at + 18),
-        eight(head, at + 27),
-        eight(head, at + 36),
-        eight(head, at + 45),
-        eight(head, at + 54),
-        eight(head, at + 63),
+        number(head, k),
+        number(head, k + 1),
+        number(head, k + 2),
+        number(head, k + 3),
+        number(head, k + 4),
+        number(head, k + 5),
+        number(head, k + 6),
+        number(head, k + 7),
     ]
 }
 
-fn flags(head: &[u8; 323], at: usize) -> Flags
-    requires { ⌜ at + 2 ≤ 323 ⌝ }
+fn flags(head: &[u8; 369], k: usize) -> Flags
+    requires { ⌜ k < 41 ⌝ }
 {
-    let bits = two(head, at);
+    let bits = number(head, k);
     Flags {
         x: bits / 16 % 2 == 1,
         n: bits / 8 % 2 == 1,
@@ -112,29 +112,29 @@ fn flags(head: &[u8; 323], at: usize) -> Flags
     }
 }
 
-pub(crate) fn text_length(head: &[u8; 323]) -> usize {
-    four(head, 0) as usize
+pub(crate) fn text_length(head: &[u8; 369]) -> usize {
+    number(head, 0) as usize
 }
 
-pub(crate) fn read_header(head: &[u8; 323]) -> Vector {
+pub(crate) fn read_header(head: &[u8; 369]) -> Vector {
     let before = State {
-        d: row(head, 8),
-        a: row(head, 80),
-        flags: flags(head, 5),
+        d: row(head, 2),
+        a: row(head, 10),
+        flags: flags(head, 1),
     };
     let middle = Middle {
-        place: four(head, 240),
-        data: row(head, 245),
-        flags: flags(head, 317),
-        promised: flags(head, 320),
+        place: number(head, 30),
+        data: row(head, 31),
+        flags: flags(head, 39),
+        promised: flags(head, 40),
     };
     Vector {
         before,
-        data: row(head, 152),
-        flags: flags(head, 224),
-        promised: flags(head, 227),
-        steps: four(head, 230),
-        clocks: four(head, 235) as u64,
+        data: row(head, 18),
+        flags: flags(head, 26),
+        promised: flags(head, 27),
+        steps: number(head, 28),
+        clocks: number(head, 29) as u64,
         middle,
     }
 }

@@ -53,14 +53,14 @@ fn read_text(text: &mut [u8], n: usize) -> usize
 }
 
 // Reads the next vector, its header and its text.
-fn next(head: &mut [u8; 323], text: &mut [u8]) -> Input
+fn next(head: &mut [u8; 369], text: &mut [u8]) -> Input
     ensures { λ r. ⌜ Counts (r .length) (now (text .exit)) ⌝ }
 {
     let got = io::read_full(STDIN_FILENO, head);
     if got == 0 {
         return without_text(Came::End);
     }
-    if (got < 323) | !is_header(head) {
+    if (got < 369) | !is_header(head) {
         return without_text(Came::Malformed);
     }
     let length = text_length(head);
@@ -138,7 +138,7 @@ fn all_vectors() -> Tally {
     };
     let mut turns: u32 = 0xffff_ffff;
     while turns > 0 {
-        let mut head = [0u8; 323];
+        let mut head = [0u8; 369];
         let mut text = [0u8; TEXT_MAX];
         let input = next(&mut head, &mut text);
         let came = input.came;
