@@ -36,7 +36,7 @@ use Rattle.recipes.specs.declared.types.Codes.the-variants.{Known}
 use Rattle.recipes.specs.Recipe.{isNothing, isWidth, target, recipeLines, Names, Accepted}
 use Rattle.recipes.specs.Reader.{readOf}
 use Rattle.recipes.specs.Listing.{stepsMax, lineSteps, listingOf, stepsAt, stepsOf, over, translated, translateOf, clocksOf}
-use Rattle.recipes.specs.Rule.{numbersOf, registersOf, codesOf, Account, saidBy, ruleOf, rulesOf}
+use Rattle.recipes.specs.Rule.{numbersOf, registersOf, codesOf, Account, accountOf, ruleOf, rulesOf}
 use Rattle.recipes.specs.Demand.{EightLongs, Holds, Ruled, Meets, Finishes, Demand3, HaltedBehind, CalledOneByOne, FromText}
 use Rattle.recipes.proofs.Steps.{line-length, listing-steps}
 use Rattle.recipes.proofs.Accepting.{Good, width-all, width-is}
@@ -49,7 +49,7 @@ use Rattle.recipes.proofs.Doing.{Does, num, line-does}
 -- ---- one line
 
 -- a line goes by the numbers and X alone
-rule-said : (w : ℕ) (l : Line) (s₀ s : State) (r : Account) → Ruled w r s₀ s → ruleOf w l (saidBy w s) ≡ ruleOf w l r
+rule-said : (w : ℕ) (l : Line) (s₀ s : State) (r : Account) → Ruled w r s₀ s → ruleOf w l (accountOf w s) ≡ ruleOf w l r
 rule-said w l s₀ s r says =
     ap₂ {C = Account} (λ (ns : List ℕ) (x : Bool). ruleOf w l (record { numbers = ns; x = x; codes = r .codes })) (says .numbers) (says .x)
 
@@ -110,16 +110,16 @@ figures-printed (k ∷ ks) s h =
     ap₂ {C = ℕ} (λ (a b : ℕ). a + b) (sym (performs .does k s (h .0) .clocks) ∙ figure-same k s (h .0)) (figures-printed ks s (h .1))
 
 -- a state says what it says
-says-itself : (w : ℕ) (s : State) → EightLongs (s .d) → Ruled w (saidBy w s) s s
+says-itself : (w : ℕ) (s : State) → EightLongs (s .d) → Ruled w (accountOf w s) s s
 says-itself w s ok = record { numbers = refl; x = refl; codes = refl; addresses = refl; longs = ok }
 
 -- a recipe's listing in front of any steps
 came-through : (n : ℕ) (ls : List Line) (more : List Step) → Accepted (suc n) ls → (s : State) → EightLongs (s .d)
-    → Came performOf performs n (listingOf (suc n) ls ++ more) s 0 s (stepsOf (suc n) ls) (clocksOf (listingOf (suc n) ls)) (rulesOf (suc n) ls (saidBy (suc n) s)) (stepsOf (suc n) ls)
+    → Came performOf performs n (listingOf (suc n) ls ++ more) s 0 s (stepsOf (suc n) ls) (clocksOf (listingOf (suc n) ls)) (rulesOf (suc n) ls (accountOf (suc n) s)) (stepsOf (suc n) ls)
 came-through n ls more h s ok =
     let ks = listingOf (suc n) ls in
-    let came = lines-lead performOf performs n (ks ++ more) s ls 0 s (saidBy (suc n) s) h (says-itself (suc n) s ok) (stands-first ks more) in
-    subst (λ (c : ℕ). Came performOf performs n (ks ++ more) s 0 s (stepsOf (suc n) ls) c (rulesOf (suc n) ls (saidBy (suc n) s)) (stepsOf (suc n) ls))
+    let came = lines-lead performOf performs n (ks ++ more) s ls 0 s (accountOf (suc n) s) h (says-itself (suc n) s ok) (stands-first ks more) in
+    subst (λ (c : ℕ). Came performOf performs n (ks ++ more) s 0 s (stepsOf (suc n) ls) c (rulesOf (suc n) ls (accountOf (suc n) s)) (stepsOf (suc n) ls))
     (figures-printed ks s (listing-legal (suc n) ls h))
     (record { state = came .state; leads = leads-like performOf (ks ++ more) (came .leads) _ _ refl (zero-add _); rule = came .rule })
 
@@ -129,7 +129,7 @@ demand-3 (suc n) pos ls h s ok b bs enough =
     let l = listingOf (suc n) ls in
     let steps = stepsOf (suc n) ls in
     let more = total b bs - steps in
-    let came = subst (λ (k : List Step). Came performOf performs n k s 0 s steps (clocksOf l) (rulesOf (suc n) ls (saidBy (suc n) s)) steps) (append-nil l) (came-through n ls [] h s ok) in
+    let came = subst (λ (k : List Step). Came performOf performs n k s 0 s steps (clocksOf l) (rulesOf (suc n) ls (accountOf (suc n) s)) steps) (append-nil l) (came-through n ls [] h s ok) in
     let over : runOf performOf l (came .state) steps more ≡ ends Finished (came .state) steps =
     run-end performOf l (came .state) steps more (spot-end l steps (sym (listing-steps (suc n) ls))) in
     let led = leads-in-parts performOf l (came .leads) more b bs (omega arith) (subst⁻¹ (λ (r : Ran). goesOn (r .end) ≡ true) over refl) in
@@ -154,7 +154,7 @@ halted-behind (suc n) pos ls h more s ok b bs there =
       subst⁻¹ (λ (r : Ran). (goesOn (r .end) ≡ true) × Meets (suc n) ls s r) (led .1) (
         idles .goes,
         record {
-          rule = subst⁻¹ (Ruled (suc n) (rulesOf (suc n) ls (saidBy (suc n) s)) s) (idles .state) (came .rule);
+          rule = subst⁻¹ (Ruled (suc n) (rulesOf (suc n) ls (accountOf (suc n) s)) s) (idles .state) (came .rule);
           next = idles .next;
           steps = ap (λ (k : ℕ). steps + k) (idles .steps) ∙ add-zero _;
           clocks = ap (λ (k : ℕ). clocks + k) (idles .clocks) ∙ add-zero _;
@@ -240,7 +240,7 @@ meets-one w e ls s r q h g ends same =
 pub meets-x : (w : ℕ) (ls : List Line) (s : State) (r q : Ran) → Meets w ls s r → Meets w ls s q → r .state .flags .x ≡ q .state .flags .x
 meets-x w ls s r q h g = h .rule .x ∙ sym (g .rule .x)
 
-pub meets-flags : (w : ℕ) (ls : List Line) (s : State) (f : Flags) (r q : Ran) → rulesOf w ls (saidBy w s) .codes ≡ Known f → Meets w ls s r → Meets w ls s q
+pub meets-flags : (w : ℕ) (ls : List Line) (s : State) (f : Flags) (r q : Ran) → rulesOf w ls (accountOf w s) .codes ≡ Known f → Meets w ls s r → Meets w ls s q
     → r .state .flags ≡ q .state .flags
 meets-flags w ls s f r q e h g = told r h ∙ sym (told q g)
   where

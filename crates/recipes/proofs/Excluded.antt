@@ -36,7 +36,7 @@ use Rattle.recipes.specs.declared.lines.Act.the-variants.{Two}
 use Rattle.recipes.specs.Recipe.{isNothing, lineChecked}
 use Rattle.recipes.specs.Reader.{verbOf, lineOf, linesOf, widthLine, readOf}
 use Rattle.recipes.specs.Listing.{stepOf, risingRest, lineSteps, listingOf}
-use Rattle.recipes.specs.Rule.{numbersOf, registersOf, saidBy, rulesOf}
+use Rattle.recipes.specs.Rule.{numbersOf, registersOf, accountOf, rulesOf}
 use Rattle.recipes.specs.Demand.{Meets, textRunOf}
 
 abbrev noFlags : Flags
@@ -159,7 +159,7 @@ module _ (d0 d1 d2 d3 : ℕ) (rest a : List ℕ) (f : Flags) where
   unfolding runOf sum
   carry-gone = refl
 
-  carry-due : getD (rulesOf 2 adding (saidBy 2 begun) .numbers) 1 0 ≡ (d2 + 2 ^ 32 * (d3 + 2 ^ 32 * 0) + (d0 + 2 ^ 32 * (d1 + 2 ^ 32 * 0))) % 2 ^ 64
+  carry-due : getD (rulesOf 2 adding (accountOf 2 begun) .numbers) 1 0 ≡ (d2 + 2 ^ 32 * (d3 + 2 ^ 32 * 0) + (d0 + 2 ^ 32 * (d1 + 2 ^ 32 * 0))) % 2 ^ 64
   unfolding rulesOf
   carry-due = refl
 

@@ -11,9 +11,9 @@ use Rattle.step.specs.Run.{arraySlots}
 use Rattle.recipes.specs.declared.types.Line.{Line}
 use Rattle.recipes.specs.Recipe.{unused, Names, Accepted}
 use Rattle.recipes.specs.Listing.{lineSteps, listingOf, stepsAt, stepsOf, over, blank, blanks}
-use Rattle.recipes.specs.Making.{Layable, StepOfLine}
+use Rattle.recipes.specs.Making.{Layable, jobOf, StepOfJob}
 use Rattle.recipes.proofs.Steps.{listing-steps, steps-at-most, steps-more, steps-prefix}
-use Rattle.recipes.proofs.Places.{listing-at}
+use Rattle.recipes.proofs.Places.{listing-at, number-fits}
 
 -- one more step over a row
 over-next : (new old : List Step) (at : ℕ) → at < length new → at < length old → set (over (take at new) old) at (getD new at blank) ≡ over (take (suc at) new) old
@@ -62,8 +62,8 @@ some w l h = go (stepsAt (l .verb)) (steps-at-most (l .verb) .0)
     go (suc s) e = omega arith
 
 -- a step's number in its line is small
-pub step-small : (w : ℕ) (l : Line) (j : ℕ) → StepOfLine w l j → j < 8
-step-small w l j h = go (stepsAt (l .verb)) (steps-at-most (l .verb) .1) (h .0) (h .1 .1)
+step-small : (w : ℕ) (l : Line) (j : ℕ) → w ≤ 4 → j < stepsAt (l .verb) * w → j < 8
+step-small w l j = go (stepsAt (l .verb)) (steps-at-most (l .verb) .1)
   where
     go : (s : ℕ) → s ≤ 2 → w ≤ 4 → j < s * w → j < 8
     go zero e a b = absurd (omega arith)
@@ -86,8 +86,13 @@ module _ (w count : ℕ) (lines : List Line) (steps : List Step) (k j at : ℕ) 
   pub line-there : k < length lines
   line-there = let a = here .line in let b = s .ready .held in omega arith
 
-  pub spot-there : StepOfLine w (getD lines k unused) j
-  spot-there = (s .ready .width (omega arith) .1, (accepted-at w lines (s .ready .many) k (s .ready .named (omega arith)) (here .line) line-there, here .step))
+  pub spot-there : StepOfJob w (jobOf w (getD lines k unused)) j
+  spot-there =
+      let names = accepted-at w lines (s .ready .many) k (s .ready .named (omega arith)) (here .line) line-there in
+      (number-fits w _ (names .source), (number-fits w _ (names .goal), here .step))
+
+  pub spot-small : j < 8
+  spot-small = step-small w (getD lines k unused) j (s .ready .width (omega arith) .1) (here .step)
 
   -- its step is stored
   stored : set steps at (getD (lineSteps w (getD lines k unused)) j blank) ≡ over (take (at + 1) (listingOf w lines)) blanks

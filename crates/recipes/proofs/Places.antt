@@ -1,51 +1,46 @@
 -- Laws of the steps of a line by their places: what the translator makes one at a time is what the definition lists. Assumes nothing.
---     copy-clears, own-step   the steps at one register
---     line-at                 step j of a line
---     listing-at              and of a listing
+--     part-at      the steps at one register
+--     line-at      step j of a line
+--     listing-at   and of a listing
 use Prim.Native.Nat.{ℕ, zero, suc, _+_, _-_, _*_, _/_, _%_, _≤_, _<_}
-use mathlib.Core.Bool.{Bool, true, false, cond, _&&_, false≢true}
+use mathlib.Core.Bool.{Bool, true, false, cond, _&&_}
 use mathlib.Core.List.{List, [], _∷_, _++_}
 use mathlib.Core.Path.{_≡_, refl, sym, ap, ap₂, _∙_}
 use native.Mathlib.Nat.{div-lt-iff-lt-mul, mod-lt, div-add-mod, div-mul-le-self, mul-le-mul-right}
 use native.Mathlib.Omega.{arith}
-use borrow.Author.Tests.{eqb-true, ne-eqb}
+use borrow.Author.Tests.{ne-eqb}
 use lib.Dec.{eqb}
 use lib.ListN.{length, take, getD, List·getD-append}
 use lib.Seq.{getD-append-add}
 use Rattle.step.specs.declared.forms.Step.{Step}
+use Rattle.step.specs.declared.forms.OneOp.the-variants.{Clr}
+use Rattle.recipes.specs.declared.lines.Act.the-variants.{One}
 use Rattle.recipes.specs.declared.types.Verb.{Verb}
 use Rattle.recipes.specs.declared.types.Line.{Line}
-use Rattle.recipes.specs.Recipe.{isCopy, target, unused}
-use Rattle.recipes.specs.Listing.{clrStep, firstStep, otherStep, withClr, highestFirst, risingRest, fallingRest, rising, falling, lineSteps, listingOf, stepsAt, stepsOf, blank}
-use Rattle.recipes.specs.Making.{registerSteps, offsetOf}
+use Rattle.recipes.specs.Recipe.{wayOf, isCopy, target, unused}
+use Rattle.recipes.specs.Listing.{stepOf, clrStep, firstStep, otherStep, withClr, highestFirst, risingRest, fallingRest, rising, falling, lineSteps, listingOf, stepsAt, stepsOf, blank}
+use Rattle.recipes.specs.Making.{actAt, jobOf, jobStep}
 use Rattle.recipes.proofs.Steps.{there-length, line-length, steps-at-most}
 
 -- ---- the steps at one register
 
-pub copy-steps : (v : Verb) → isCopy v ≡ true → stepsAt v ≡ 2
-copy-steps v e = rw e
+-- those of a verb: a copy's CLR, and its own
+abbrev registerSteps : (first : Bool) → Verb → (p q : ℕ) → List Step
+registerSteps first v p q = withClr v q (stepOf (cond first (wayOf v .first) (wayOf v .other)) p q)
 
-pub other-steps : (v : Verb) → isCopy v ≡ false → stepsAt v ≡ 1
-other-steps v e = rw e
-
--- a copy's first is its CLR
-pub copy-clears : (v : Verb) (k : Step) (part q : ℕ) → isCopy v && eqb part 0 ≡ true → clrStep q ≡ getD (withClr v q k) part blank
-copy-clears v k part q e = go (isCopy v) e
+-- part by part
+pub part-at : (v : Verb) (first : Bool) (part p q : ℕ) → part < stepsAt v
+    → stepOf (actAt (wayOf v) first part) p q ≡ getD (registerSteps first v p q) part blank
+part-at v first part p q h = go (isCopy v) part h
   where
-    go : (t : Bool) → t && eqb part 0 ≡ true → clrStep q ≡ getD (cond t (clrStep q ∷ k ∷ []) (k ∷ [])) part blank
-    go true e = rw (eqb-true part 0 e)
-    go false e = absurd (false≢true e)
-
--- and the last is the verb's own
-pub own-step : (v : Verb) (k : Step) (part q : ℕ) → part < stepsAt v → isCopy v && eqb part 0 ≡ false → k ≡ getD (withClr v q k) part blank
-own-step v k part q h e = go (isCopy v) part h e
-  where
-    go : (t : Bool) (part : ℕ) → part < cond t 2 1 → t && eqb part 0 ≡ false → k ≡ getD (cond t (clrStep q ∷ k ∷ []) (k ∷ [])) part blank
-    go true zero h e = absurd (false≢true (sym e))
-    go true (suc zero) h e = refl
-    go true (suc (suc part)) h e = absurd (omega arith)
-    go false zero h e = refl
-    go false (suc part) h e = absurd (omega arith)
+    go : (t : Bool) (part : ℕ) → part < cond t 2 1
+        → let act = cond first (wayOf v .first) (wayOf v .other) in
+        stepOf (cond (t && eqb part 0) (One Clr) act) p q ≡ getD (cond t (clrStep q ∷ stepOf act p q ∷ []) (stepOf act p q ∷ [])) part blank
+    go true zero h = refl
+    go true (suc zero) h = refl
+    go true (suc (suc part)) h = absurd (omega arith)
+    go false zero h = refl
+    go false (suc part) h = absurd (omega arith)
 
 -- ---- the registers of a line: step r at the register taken at index i
 
@@ -116,14 +111,13 @@ cut w s j h l =
     let m : j < w * s = omega arith in
     record { index = div-lt-iff-lt-mul h .1 m; part = mod-lt j h; whole = omega arith }
 
-pub line-at : (w : ℕ) (l : Line) (j : ℕ) → j < stepsAt (l .verb) * w
-    → let s = stepsAt (l .verb) in let at = offsetOf (l .verb) w (j / s) in
-    getD (registerSteps (eqb (j / s) 0) (l .verb) (l .a * w + at) (target l * w + at)) (j % s) blank ≡ getD (lineSteps w l) j blank
+pub line-at : (w : ℕ) (l : Line) (j : ℕ) → j < stepsAt (l .verb) * w → jobStep w (jobOf w l) j ≡ getD (lineSteps w l) j blank
 unfolding lineSteps
 line-at w l j h =
     let s = stepsAt (l .verb) in
     let k = cut w s j (steps-at-most (l .verb) .0) h in
-    sym (ap (λ (x : ℕ). getD (lineSteps w l) x blank) (k .whole) ∙ go (highestFirst (l .verb)) (k .index) (k .part))
+    part-at (l .verb) (eqb (j / s) 0) (j % s) _ _ (k .part)
+    ∙ sym (ap (λ (x : ℕ). getD (lineSteps w l) x blank) (k .whole) ∙ go (highestFirst (l .verb)) (k .index) (k .part))
   where
     go : (t : Bool) → j / stepsAt (l .verb) < w → j % stepsAt (l .verb) < stepsAt (l .verb)
         → let s = stepsAt (l .verb) in let at = cond t (w - 1 - j / s) (j / s) in

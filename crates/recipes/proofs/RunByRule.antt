@@ -29,7 +29,7 @@ use Rattle.recipes.specs.declared.types.RecipeRun.{RecipeRun}
 use Rattle.recipes.specs.Recipe.{noRefusal, isNothing, unused, recipeLines}
 use Rattle.recipes.specs.Reader.{readOf}
 use Rattle.recipes.specs.Listing.{stepsMax, listingOf, stepsOf, over, listed, translateOf, blanks}
-use Rattle.recipes.specs.Rule.{codesOf, Account, saidBy, ruleOf, rulesOf}
+use Rattle.recipes.specs.Rule.{codesOf, Account, accountOf, ruleOf, rulesOf}
 use Rattle.recipes.specs.Demand.{EightLongs, Holds, Meets, ranByRule, untouched, recipeRunOf, textRunOf}
 use Rattle.recipes.specs.Making.{codesBehind, codesAfter}
 use Rattle.recipes.proofs.Accepting.{Good, width-is, tests-agree}
@@ -76,10 +76,10 @@ unfolding rulesOf
 lines-told w l [] r f h = line-told (l .verb) _ _ _ f h
 lines-told w l (m ∷ ls) r f h = lines-told w m ls (ruleOf w l r) f h
 
-codes-told : (w : ℕ) (ls : List Line) (s : State) (f : Flags) → Holds (rulesOf w ls (saidBy w s) .codes) f → codesAfter ls f ≡ rulesOf w ls (saidBy w s) .codes
+codes-told : (w : ℕ) (ls : List Line) (s : State) (f : Flags) → Holds (rulesOf w ls (accountOf w s) .codes) f → codesAfter ls f ≡ rulesOf w ls (accountOf w s) .codes
 unfolding rulesOf
 codes-told w [] s f h = ap Known h
-codes-told w (l ∷ ls) s f h = lines-told w l ls (saidBy w s) f h
+codes-told w (l ∷ ls) s f h = lines-told w l ls (accountOf w s) f h
 
 -- ---- a recipe that is refused, and one that is run: what the translator made of it
 
@@ -111,7 +111,7 @@ ruled-by r s t k slots g h =
     let ls = recipeLines r in
     (λ i. record {
       refused = noRefusal;
-      d = sym (ruled-registers w (g .width) (rulesOf w ls (saidBy w s)) s (t .state) (h .rule)) i;
+      d = sym (ruled-registers w (g .width) (rulesOf w ls (accountOf w s)) s (t .state) (h .rule)) i;
       a = h .rule .addresses i;
       x = h .rule .x i;
       codes = codes-told w ls s (t .state .flags) (h .rule .codes) i;

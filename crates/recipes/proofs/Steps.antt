@@ -24,12 +24,12 @@ there-length v q k = go (isCopy v)
     go true = refl
     go false = refl
 
+pub one-or-two : (t : Bool) → (1 ≤ cond t 2 1) × (cond t 2 1 ≤ 2)
+one-or-two true = (omega arith, omega arith)
+one-or-two false = (omega arith, omega arith)
+
 pub steps-at-most : (v : Verb) → (1 ≤ stepsAt v) × (stepsAt v ≤ 2)
-steps-at-most v = go (isCopy v)
-  where
-    go : (t : Bool) → (1 ≤ cond t 2 1) × (cond t 2 1 ≤ 2)
-    go true = (omega arith, omega arith)
-    go false = (omega arith, omega arith)
+steps-at-most v = one-or-two (isCopy v)
 
 pub risingRest-length : (v : Verb) (n p q : ℕ) → length (risingRest v n p q) ≡ stepsAt v * n
 unfolding risingRest

@@ -20,7 +20,7 @@ use Rattle.recipes.specs.declared.types.Codes.{Codes}
 use Rattle.recipes.specs.declared.types.Codes.the-variants.{Open, Known}
 use Rattle.recipes.specs.declared.types.RecipeRun.{RecipeRun}
 use Rattle.recipes.specs.Recipe.{noRefusal, isNothing, recipeLines, Accepted}
-use Rattle.recipes.specs.Rule.{radix, numbersOf, registersOf, Account, saidBy, rulesOf}
+use Rattle.recipes.specs.Rule.{radix, numbersOf, registersOf, Account, accountOf, rulesOf}
 use Rattle.recipes.specs.Reader.{readOf}
 use Rattle.recipes.specs.Listing.{listingOf, stepsOf, stepsMax, clocksOf, tested, translateOf}
 
@@ -47,7 +47,7 @@ pub record Ruled (w : ℕ) (r : Account) (s t : State) : Type 0 where
 
 -- a run from the first place has done the lines' steps, and nothing else: the state is by the rule, the next place is behind them
 pub record Meets (w : ℕ) (ls : List Line) (s : State) (r : Ran) : Type 0 where
-  pub rule : Ruled w (rulesOf w ls (saidBy w s)) s (r .state)
+  pub rule : Ruled w (rulesOf w ls (accountOf w s)) s (r .state)
   pub next : r .next ≡ stepsOf w ls
   pub steps : r .steps ≡ stepsOf w ls
   pub clocks : r .clocks ≡ clocksOf (listingOf w ls)
@@ -95,7 +95,7 @@ FromText = (text : List ℕ) (slots : List Step) → isNothing (readOf text .ref
 -- what the rule makes of a state: at the widths 1, 2 and 4 the numbers determine the registers (`ruled-registers` of proofs/Demand)
 abbrev pub ranByRule : (w : ℕ) → List Line → State → RecipeRun
 ranByRule w ls s =
-    let r = rulesOf w ls (saidBy w s) in
+    let r = rulesOf w ls (accountOf w s) in
     record {
       refused = noRefusal;
       d = registersOf w (r .numbers);

@@ -1,14 +1,14 @@
 -- Terms of private functions' contracts: an operand's field, the translator's parts, and what a run tells of the flags. No contract of a
 -- public function names anything of this page, and a reader can leave it out. Assumes nothing.
 use mathlib.Core.Path.{_≡_}
-use mathlib.Core.Bool.{Bool, true, false, cond}
+use mathlib.Core.Bool.{Bool, cond, _&&_}
 use mathlib.Core.List.{List, [], _∷_}
-use Prim.Native.Nat.{ℕ, _+_, _-_, _*_, _/_, _≤_, _<_, min, max}
-use lib.Dec.{ltb}
-use lib.ListN.{length, take, drop}
-use lib.Seq.{sets}
+use Prim.Native.Nat.{ℕ, _+_, _-_, _*_, _/_, _%_, _≤_, _<_}
+use lib.Dec.{eqb, ltb}
+use lib.ListN.{length, take}
 use Rattle.alu.specs.declared.types.Flags.{Flags}
 use Rattle.step.specs.declared.forms.Step.{Step}
+use Rattle.step.specs.declared.forms.OneOp.the-variants.{Clr}
 use Rattle.step.specs.Run.{arraySlots}
 use Rattle.recipes.specs.declared.types.Verb.{Verb}
 use Rattle.recipes.specs.declared.types.Line.{Line}
@@ -19,11 +19,15 @@ use Rattle.recipes.specs.declared.types.Translated.{Translated}
 use Rattle.recipes.specs.declared.types.Listing.{Listing}
 use Rattle.recipes.specs.declared.types.Codes.{Codes}
 use Rattle.recipes.specs.declared.types.Codes.the-variants.{Open, Known}
+use Rattle.recipes.specs.declared.lines.Act.{Act}
+use Rattle.recipes.specs.declared.lines.Act.the-variants.{One}
+use Rattle.recipes.specs.declared.lines.Way.{Way}
+use Rattle.recipes.specs.declared.translator.Job.{Job}
 use Rattle.recipes.specs.declared.printer.Operand.{Operand}
 use Rattle.recipes.specs.declared.printer.Operand.the-variants.{Numbered, Absent}
-use Rattle.text.specs.Text.{before, after, parts, ascii, decimalOf}
-use Rattle.recipes.specs.Recipe.{atLine, noRefusal, wayOf, recipeLines, Names, Accepted}
-use Rattle.recipes.specs.Listing.{firstStep, otherStep, withClr, highestFirst, stepsAt, stepsOf, linesPass, tested}
+use Rattle.text.specs.Text.{ascii, decimalOf}
+use Rattle.recipes.specs.Recipe.{atLine, noRefusal, wayOf, target, recipeLines, Accepted}
+use Rattle.recipes.specs.Listing.{stepOf, stepsAt, stepsOf, linesPass, tested}
 
 -- ---- printing
 
@@ -35,16 +39,30 @@ operandText Absent = ascii "-"
 -- ---- one step of a line
 
 -- the steps at one register
-abbrev pub registerSteps : (first : Bool) → Verb → (p q : ℕ) → List Step
-registerSteps first v p q = withClr v q (cond first (firstStep v p q) (otherStep v p q))
+abbrev pub stepsBy : Way → ℕ
+stepsBy way = cond (way .clears) 2 1
+
+abbrev pub actAt : Way → (first : Bool) → (part : ℕ) → Act
+actAt way first part = cond (way .clears && eqb part 0) (One Clr) (cond first (way .first) (way .other))
 
 -- which of a number's w registers is the i-th that is taken
-abbrev pub offsetOf : Verb → (w i : ℕ) → ℕ
-offsetOf v w i = cond (highestFirst v) (w - 1 - i) i
+abbrev pub offsetOf : Way → (w i : ℕ) → ℕ
+offsetOf way w i = cond (way .falls) (w - 1 - i) i
 
--- j is a step of the line
-abbrev pub StepOfLine : (w : ℕ) → Line → (j : ℕ) → Type 0
-StepOfLine w l j = (w ≤ 4) × (Names (8 / w) l × (j < stepsAt (l .verb) * w))
+-- what the steps of a line have in common
+abbrev pub jobOf : (w : ℕ) → Line → Job
+jobOf w l = record { way = wayOf (l .verb); from = l .a * w; to = target l * w; steps = stepsAt (l .verb) * w }
+
+-- step j
+abbrev pub jobStep : (w : ℕ) → Job → (j : ℕ) → Step
+jobStep w b j =
+    let s = stepsBy (b .way) in
+    let at = offsetOf (b .way) w (j / s) in
+    stepOf (actAt (b .way) (eqb (j / s) 0) (j % s)) (b .from + at) (b .to + at)
+
+-- there is one, and its registers are among the eight
+abbrev pub StepOfJob : (w : ℕ) → Job → (j : ℕ) → Type 0
+StepOfJob w b j = (b .from + w ≤ 8) × ((b .to + w ≤ 8) × (j < stepsBy (b .way) * w))
 
 -- ---- what the translator says
 

@@ -40,16 +40,16 @@ refusedAt k line = readingOf (atLine k line) 1 0 (padded [])
 -- ---- fields
 
 unfoldable pub verbOf : List ℕ → VerbRead
-verbOf word =
-    cond (sameBytes word (ascii "clear")) (Known Clear)
-    (cond (sameBytes word (ascii "copy")) (Known Copy)
-    (cond (sameBytes word (ascii "add")) (Known Add)
-    (cond (sameBytes word (ascii "sub")) (Known Sub)
-    (cond (sameBytes word (ascii "neg")) (Known Neg)
-    (cond (sameBytes word (ascii "not")) (Known Not)
-    (cond (sameBytes word (ascii "halve")) (Known Halve)
-    (cond (sameBytes word (ascii "down")) (Known Down)
-    (cond (sameBytes word (ascii "up")) (Known Up)
+verbOf field =
+    cond (sameBytes field (ascii "clear")) (Known Clear)
+    (cond (sameBytes field (ascii "copy")) (Known Copy)
+    (cond (sameBytes field (ascii "add")) (Known Add)
+    (cond (sameBytes field (ascii "sub")) (Known Sub)
+    (cond (sameBytes field (ascii "neg")) (Known Neg)
+    (cond (sameBytes field (ascii "not")) (Known Not)
+    (cond (sameBytes field (ascii "halve")) (Known Halve)
+    (cond (sameBytes field (ascii "down")) (Known Down)
+    (cond (sameBytes field (ascii "up")) (Known Up)
     Unknown))))))))
 
 -- ---- a line, without its byte 10: its first field is the verb, the others are numbers. Any other shape is 5
@@ -79,7 +79,7 @@ twoFields v (f ∷ []) = Slip Syntax
 twoFields v (f ∷ g ∷ []) = withTwo v (digitOf f) (digitOf g)
 twoFields v (f ∷ g ∷ h ∷ more) = Slip Syntax
 
--- a word in the verb's place, with the fields after it
+-- a field in the verb's place, with the fields after it
 abbrev pub fieldsOf : VerbRead → List (List ℕ) → LineRead
 fieldsOf Unknown fields = Slip Syntax
 fieldsOf (Known v) fields = cond (takesTwo v) (twoFields v fields) (oneField v fields)

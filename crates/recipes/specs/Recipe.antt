@@ -74,8 +74,11 @@ isCopy v = wayOf v .clears
 -- ---- lines
 
 -- the number that a line changes
+abbrev pub goalOf : Way → Line → ℕ
+goalOf way l = cond (way .«takes_two») (l .b) (l .a)
+
 abbrev pub target : Line → ℕ
-target l = cond (takesTwo (l .verb)) (l .b) (l .a)
+target l = goalOf (wayOf (l .verb)) l
 
 -- a width, and the lines of a recipe that count
 abbrev pub isWidth : ℕ → Bool

@@ -104,8 +104,8 @@ pub record Account : Type 0 where
   pub codes : Codes
 
 -- what a state says
-abbrev pub saidBy : (w : ℕ) → State → Account
-saidBy w s = record { numbers = numbersOf w (s .d); x = s .flags .x; codes = Known (s .flags) }
+abbrev pub accountOf : (w : ℕ) → State → Account
+accountOf w s = record { numbers = numbersOf w (s .d); x = s .flags .x; codes = Known (s .flags) }
 
 -- a line changes no number but its target
 abbrev pub ruleOf : (w : ℕ) → Line → Account → Account

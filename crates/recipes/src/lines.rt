@@ -3,7 +3,7 @@
 ghost use mathlib.Core.Path.{_≡_};
 ghost use mathlib.Core.Bool.{true, false};
 ghost use Rattle.recipes.specs.declared.lines.Act.the-variants.{One, Two, Shift};
-ghost use Rattle.recipes.specs.Recipe.{way, wayOf, takesTwo, isCopy, target, isWidth, lineChecked};
+ghost use Rattle.recipes.specs.Recipe.{way, wayOf, goalOf, target, isWidth, lineChecked};
 use super::types::Line;
 use super::types::Refusal;
 use super::types::Verb;
@@ -92,16 +92,11 @@ pub(crate) fn way_of(verb: Verb) -> Way
     }
 }
 
-pub(crate) fn takes_two(verb: Verb) -> bool
-    ensures { λ r. ⌜ r ≡ takesTwo verb ⌝ }
+// The number that a line of this way changes.
+pub(crate) fn goal(way: Way, line: Line) -> u8
+    ensures { λ r. ⌜ r ≡ goalOf way line ⌝ }
 {
-    way_of(verb).takes_two
-}
-
-pub(crate) fn is_copy(verb: Verb) -> bool
-    ensures { λ r. ⌜ r ≡ isCopy verb ⌝ }
-{
-    way_of(verb).clears
+    if way.takes_two { line.b } else { line.a }
 }
 
 // The number that a line changes.
@@ -109,7 +104,8 @@ pub fn target(line: Line) -> u8
     ensures { λ r. ⌜ r ≡ target line ⌝ }
 {
     let verb = line.verb;
-    if takes_two(verb) { line.b } else { line.a }
+    let way = way_of(verb);
+    goal(way, line)
 }
 
 pub(crate) fn is_width(width: u8) -> bool
@@ -123,12 +119,12 @@ pub(crate) fn check_line(numbers: u8, line: Line) -> LineRead
     ensures { λ r. ⌜ r ≡ lineChecked numbers line ⌝ }
 {
     let verb = line.verb;
-    let copies = is_copy(verb);
-    let goal = target(line);
-    if (numbers <= line.a) | (numbers <= goal) {
+    let way = way_of(verb);
+    let to = goal(way, line);
+    if (numbers <= line.a) | (numbers <= to) {
         return LineRead::Slip(Refusal::NoSuchNumber);
     }
-    if copies & (line.a == goal) {
+    if way.clears & (line.a == to) {
         return LineRead::Slip(Refusal::OntoItself);
     }
     LineRead::Read(line)

@@ -154,11 +154,11 @@ fn put_steps(out: &mut [u8], at: usize, steps: [Step; SLOTS], count: usize) -> u
     next
 }
 
-// The first line of what is printed: a word and two numbers.
-fn put_head(out: &mut [u8], word: &[u8], a: u64, b: u64) -> usize
-    ensures { λ r. ⌜ Wrote (now (out .entry)) 0 (now (word .entry) ++ (fieldOf a ++ (fieldOf b ++ newline))) (now (out .exit)) r ⌝ }
+// The first line of what is printed: a name and two numbers.
+fn put_head(out: &mut [u8], name: &[u8], a: u64, b: u64) -> usize
+    ensures { λ r. ⌜ Wrote (now (out .entry)) 0 (now (name .entry) ++ (fieldOf a ++ (fieldOf b ++ newline))) (now (out .exit)) r ⌝ }
 {
-    let next = put_bytes(out, 0, word);
+    let next = put_bytes(out, 0, name);
     let next = put_number(out, next, TAB, a);
     let next = put_number(out, next, TAB, b);
     put_byte(out, next, NEWLINE)

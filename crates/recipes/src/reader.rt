@@ -11,7 +11,7 @@ ghost use Rattle.recipes.specs.Reader.{verbOf, onlyDigit, oneField, twoF
 use super::lines::LineRead;
 use super::lines::check_line;
 use super::lines::is_width;
-use super::lines::takes_two;
+use super::lines::way_of;
 use super::types::LINES_MAX;
 use super::types::Line;
 use super::types::Reading;
@@ -28,36 +28,36 @@ use text::types::Digit;
 use text::types::NEWLINE;
 use text::types::TAB;
 
-// What a word in the verb's place is.
+// What a field in the verb's place is.
 pub(crate) enum VerbRead {
     Known(Verb),
     Unknown,
 }
 
-// `verb` where the word is its name, and otherwise what was found among the other verbs.
-fn or_verb(word: &[u8], name: &[u8], verb: Verb, other: VerbRead) -> VerbRead
-    ensures { λ r. ⌜ r ≡ cond (sameBytes (now (word .entry)) (now (name .entry))) (Known verb) other ⌝ }
+// `verb` where the field is its name, and otherwise what was found among the other verbs.
+fn or_verb(field: &[u8], name: &[u8], verb: Verb, other: VerbRead) -> VerbRead
+    ensures { λ r. ⌜ r ≡ cond (sameBytes (now (field .entry)) (now (name .entry))) (Known verb) other ⌝ }
 {
-    if same(word, name) {
+    if same(field, name) {
         return VerbRead::Known(verb);
     }
     other
 }
 
 // No two names are the same, so that the order doesn't matter.
-fn verb_of(word: &[u8]) -> VerbRead
-    ensures { λ r. ⌜ r ≡ verbOf (now (word .entry)) ⌝ }
+fn verb_of(field: &[u8]) -> VerbRead
+    ensures { λ r. ⌜ r ≡ verbOf (now (field .entry)) ⌝ }
 {
     let found = VerbRead::Unknown;
-    let found = or_verb(word, b"up", Verb::Up, found);
-    let found = or_verb(word, b"down", Verb::Down, found);
-    let found = or_verb(word, b"halve", Verb::Halve, found);
-    let found = or_verb(word, b"not", Verb::Not, found);
-    let found = or_verb(word, b"neg", Verb::Neg, found);
-    let found = or_verb(word, b"sub", Verb::Sub, found);
-    let found = or_verb(word, b"add", Verb::Add, found);
-    let found = or_verb(word, b"copy", Verb::Copy, found);
-    or_verb(word, b"clear", Verb::Clear, found)
+    let found = or_verb(field, b"up", Verb::Up, found);
+    let found = or_verb(field, b"down", Verb::Down, found);
+    let found = or_verb(field, b"halve", Verb::Halve, found);
+    let found = or_verb(field, b"not", Verb::Not, found);
+    let found = or_verb(field, b"neg", Verb::Neg, found);
+    let found = or_verb(field, b"sub", Verb::Sub, found);
+    let found = or_verb(field, b"add", Verb::Add, found);
+    let found = or_verb(field, b"copy", Verb::Copy, found);
+    or_verb(field, b"clear", Verb::Clear, found)
 }
 
 // The digit that is the only field.
@@ -113,7 +113,7 @@ fn read_fields(row: &[u8]) -> LineRead
         return LineRead::Slip(Refusal::Syntax);
     }
     let fields = &row[tab + 1..];
-    if takes_two(verb) {
+    if way_of(verb).takes_two {
         read_two(verb, fields)
     } else {
         read_one(verb, fields)

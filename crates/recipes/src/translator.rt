@@ -4,15 +4,15 @@
 ghost use mathlib.Core.Path.{_≡_};
 ghost use Prim.Native.Nat.{_/_, _%_, _*_, _+_, _-_, _<_, _≤_, _^_};
 ghost use lib.ListN.{getD, take};
-ghost use Rattle.recipes.specs.Recipe.{linesMax};
-ghost use Rattle.recipes.specs.Listing.{long, formOf, stepOf, blank, blanks, stepsAt, lineSteps, listingOf, over, translateOf, atRest, figureOf, clocksOf};
-ghost use Rattle.recipes.specs.Making.{translation, registerSteps, offsetOf, judgeOf, judgeLines, Layable, StepOfLine};
+ghost use Rattle.recipes.specs.Recipe.{linesMax, unused};
+ghost use Rattle.recipes.specs.Listing.{long, formOf, stepOf, blank, blanks, listingOf, over, translateOf, atRest, figureOf, clocksOf};
+ghost use Rattle.recipes.specs.Making.{translation, actAt, offsetOf, stepsBy, jobOf, jobStep, StepOfJob, judgeOf, judgeLines, Layable};
 use super::lines::Act;
 use super::lines::LineRead;
+use super::lines::Way;
 use super::lines::check_line;
-use super::lines::is_copy;
+use super::lines::goal;
 use super::lines::is_width;
-use super::lines::target;
 use super::lines::way_of;
 use super::types::LINES_MAX;
 use super::types::Line;
@@ -34,6 +34,14 @@ use step::registers::D;
 use step::registers::State;
 use step::runs::SLOTS;
 use step::steps::perform;
+
+// What the steps of a line have in common: its way, the lowest registers of its numbers, and how many steps there are.
+pub(crate) struct Job {
+    pub way: Way,
+    pub from: usize,
+    pub to: usize,
+    pub steps: usize,
+}
 
 // Every step of a listing is made here.
 fn long(form: Form) -> Step
@@ -70,71 +78,80 @@ fn blank() -> Step
     step_of(Act::One(OneOp::Clr), 255, 255)
 }
 
-// Step `part` of those at one register. A copy has two, its CLR and its ADD.
-fn register_step(verb: Verb, first: bool, part: u8, p: u8, q: u8) -> Step
-    requires { ⌜ part < stepsAt verb ⌝ }
-    ensures { λ r. ⌜ r ≡ getD (registerSteps first verb p q) part blank ⌝ }
+// What step `part` of those at one register does. A copy has two, its CLR and its ADD.
+fn act_at(way: Way, first: bool, part: usize) -> Act
+    ensures { λ r. ⌜ r ≡ actAt way first part ⌝ }
 {
-    let way = way_of(verb);
     let at_first = way.first;
     let at_other = way.other;
     if way.clears & (part == 0) {
-        return step_of(Act::One(OneOp::Clr), q, q);
+        return Act::One(OneOp::Clr);
     }
-    if first {
-        step_of(at_first, p, q)
-    } else {
-        step_of(at_other, p, q)
-    }
+    if first { at_first } else { at_other }
 }
 
 // Which of a number's registers is the one taken at `index`, from 0.
-fn offset(verb: Verb, width: u8, index: u8) -> u8
+fn offset(way: Way, width: u8, index: usize) -> usize
     requires { ⌜ index < width ⌝ }
-    ensures { λ r. ⌜ (r ≡ offsetOf verb width index) × (r < width) ⌝ }
+    ensures { λ r. ⌜ (r ≡ offsetOf way width index) × (r < width) ⌝ }
 {
-    if way_of(verb).falls {
-        width - 1 - index
+    if way.falls {
+        width as usize - 1 - index
     } else {
         index
     }
 }
 
 // Step j of a line is at the register taken at this index, and is this part of the steps there.
-fn index_of(verb: Verb, j: u8) -> u8
-    ensures { λ r. ⌜ r ≡ j / stepsAt verb ⌝ }
+fn index_of(way: Way, j: usize) -> usize
+    ensures { λ r. ⌜ r ≡ j / stepsBy way ⌝ }
 {
-    if is_copy(verb) { j / 2 } else { j }
+    if way.clears { j / 2 } else { j }
 }
 
-fn part_of(verb: Verb, j: u8) -> u8
-    ensures { λ r. ⌜ r ≡ j % stepsAt verb ⌝ }
+fn part_of(way: Way, j: usize) -> usize
+    ensures { λ r. ⌜ r ≡ j % stepsBy way ⌝ }
 {
-    if is_copy(verb) { j % 2 } else { 0 }
-}
-
-// Step j of a line.
-fn line_step(width: u8, line: Line, j: u8) -> Step
-    requires { ⌜ StepOfLine width line j ⌝ }
-    ensures { λ r. ⌜ r ≡ getD (lineSteps width line) j blank ⌝ }
-{
-    let verb = line.verb;
-    let index = index_of(verb, j);
-    let part = part_of(verb, j);
-    let at = offset(verb, width, index);
-    let from = line.a * width;
-    let to = target(line) * width;
-    let p = from + at;
-    let q = to + at;
-    register_step(verb, index == 0, part, p, q)
+    if way.clears { j % 2 } else { 0 }
 }
 
 // The steps that a line takes.
-fn steps_of(width: u8, verb: Verb) -> u8
-    requires { ⌜ width ≤ 4 ⌝ }
-    ensures { λ r. ⌜ (r ≡ stepsAt verb * width) × (r ≤ 8) ⌝ }
+fn steps_of(width: u8, way: Way) -> usize
+    ensures { λ r. ⌜ (r ≡ stepsBy way * width) × (r ≤ 2 * width) ⌝ }
 {
-    if is_copy(verb) { 2 * width } else { width }
+    let steps = width as usize;
+    if way.clears { 2 * steps } else { steps }
+}
+
+// What the steps of a line have in common.
+fn job_of(width: u8, line: Line) -> Job
+    ensures { λ r. ⌜ r ≡ jobOf width line ⌝ }
+{
+    let verb = line.verb;
+    let way = way_of(verb);
+    let to = goal(way, line);
+    let steps = steps_of(width, way);
+    Job {
+        way,
+        from: line.a as usize * width as usize,
+        to: to as usize * width as usize,
+        steps,
+    }
+}
+
+// Step j of a line.
+fn line_step(width: u8, job: Job, j: usize) -> Step
+    requires { ⌜ StepOfJob width job j ⌝ }
+    ensures { λ r. ⌜ r ≡ jobStep width job j ⌝ }
+{
+    let way = job.way;
+    let index = index_of(way, j);
+    let part = part_of(way, j);
+    let at = offset(way, width, index);
+    let act = act_at(way, index == 0, part);
+    let p = job.from + at;
+    let q = job.to + at;
+    step_of(act, p as u8, q as u8)
 }
 
 pub(crate) fn translation(refused: Refused, count: usize) -> Translated
@@ -160,7 +177,7 @@ fn judge_lines(width: u8, count: usize, lines: [Line; LINES_MAX]) -> Translated
             }
             LineRead::Read(_) => {}
         }
-        steps += steps_of(width, verb) as usize;
+        steps += steps_of(width, way_of(verb));
         k += 1;
     }
     translation(no_refusal(), steps)
@@ -182,6 +199,21 @@ fn judge(recipe: Recipe) -> Translated
     judge_lines(width, count, lines)
 }
 
+// Line k, from 0; past the last, `clear 0`.
+fn line_at(lines: [Line; LINES_MAX], k: usize) -> Line
+    ensures { λ r. ⌜ r ≡ getD lines k unused ⌝ }
+{
+    if k < LINES_MAX {
+        lines[k]
+    } else {
+        Line {
+            verb: Verb::Clear,
+            a: 0,
+            b: 0,
+        }
+    }
+}
+
 // The first `total` steps of the lines, and blank slots behind them.
 fn lay(width: u8, lines: [Line; LINES_MAX], total: usize) -> [Step; SLOTS]
     requires { ⌜ Layable width lines total ⌝ }
@@ -189,18 +221,18 @@ fn lay(width: u8, lines: [Line; LINES_MAX], total: usize) -> [Step; SLOTS]
 {
     let none = blank();
     let mut steps = [none; SLOTS];
+    let mut job = job_of(width, line_at(lines, 0));
     let mut k: usize = 0;
-    let mut j: u8 = 0;
+    let mut j: usize = 0;
     let mut at: usize = 0;
     while at < total {
-        let line = lines[k];
-        let verb = line.verb;
-        steps[at] = line_step(width, line, j);
+        steps[at] = line_step(width, job, j);
         at += 1;
         j += 1;
-        if j == steps_of(width, verb) {
+        if j == job.steps {
             j = 0;
             k += 1;
+            job = job_of(width, line_at(lines, k));
         }
     }
     steps

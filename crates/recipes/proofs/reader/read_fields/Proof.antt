@@ -1,6 +1,7 @@
 -- `recipes::reader::read_fields` meets its contract: what stands before the first tab is the verb, and what stands behind it are the numbers.
 -- Assumes nothing.
-use mathlib.Core.Path.{sym}
+use mathlib.Core.Bool.{true, false}
+use mathlib.Core.Path.{_≡_, sym}
 use borrow.Author.Needs.{needs}
 use Rattle.recipes.specs.Recipe.{takesTwo}
 use Rattle.text.proofs.Texts.{first-by}
@@ -31,7 +32,8 @@ returns-3 c =
     let k = e .before .before in
     let v = k .before .before in
     let f = first-by (v .before .before .first .ensures) in
-    rw (f .front, ← v .verb-of .ensures, k .verb .given .1, f .some (e .if1 .left), ← c .before .before .takes-two .ensures, c .before .if2 .taken) (c .read-two .ensures)
+    let two : takesTwo (k .verb .given .0 .0) ≡ true = rw (c .before .before .way-of .ensures) at (c .before .if2 .taken) in
+    rw (f .front, ← v .verb-of .ensures, k .verb .given .1, f .some (e .if1 .left), two) (c .read-two .ensures)
 
 returns-4 : tie.Need-returns-4
 returns-4 c =
@@ -39,7 +41,8 @@ returns-4 c =
     let k = e .before .before in
     let v = k .before .before in
     let f = first-by (v .before .before .first .ensures) in
-    rw (f .front, ← v .verb-of .ensures, k .verb .given .1, f .some (e .if1 .left), ← c .before .before .takes-two .ensures, c .before .if2 .left) (c .read-one .ensures)
+    let one : takesTwo (k .verb .given .0 .0) ≡ false = rw (c .before .before .way-of .ensures) at (c .before .if2 .left) in
+    rw (f .front, ← v .verb-of .ensures, k .verb .given .1, f .some (e .if1 .left), one) (c .read-one .ensures)
 
 pub read-fields-spec : {M : Type 1} → statement M
 read-fields-spec =

@@ -1,16 +1,8 @@
--- `recipes::translator::index_of` meets its contract: a copy has two steps a word, any other verb one. Assumes nothing.
+-- `recipes::translator::index_of` meets its contract: a copy has two steps at a register. Assumes nothing.
 use native.Mathlib.Nat.{div-one}
 use borrow.Author.Needs.{needs}
-use mathlib.Core.Path.{sym, _∙_}
-use Rattle.recipes.proofs.Places.{copy-steps, other-steps}
 use Rattle.recipes.proofs.translator.index_of.Statement.{statement}
 use Rattle.recipes.proofs.translator.index_of.Tie as tie
 
-returns : tie.Need-returns
-returns c = rw (copy-steps _ (sym (c .before .is-copy .ensures) ∙ c .if1 .taken))
-
-returns-2 : tie.Need-returns-2
-returns-2 c = rw (other-steps _ (sym (c .before .is-copy .ensures) ∙ c .if1 .left), div-one)
-
 pub index-of-spec : {M : Type 1} → statement M
-index-of-spec = tie.close (tie.spec (search needs) returns returns-2)
+index-of-spec = tie.close (tie.spec (λ c. rw (c .if1 .taken)) (λ c. rw (c .if1 .left, div-one)))

@@ -31,15 +31,20 @@ returns c =
     rw (c .before .at-line .ensures) at (c .translation .ensures) ∙ passed-slip _ _ _ _ _ (l .inv .1) _ (t .loop-test .taken) (sym (e .check-line .ensures) ∙ k .refusal .given .1)
 
 add-steps : tie.Need-add-steps Inv-loop μ-loop
-add-steps c = let l = c .before .before .before .before .before .before .loop in let h = l .inv .1 .few in let m = c .steps-of .ensures .1 in search needs
+add-steps c =
+    let l = c .before .before .before .before .before .before .before .loop in
+    let h = l .inv .1 .few in
+    let m = c .steps-of .ensures .1 in
+    search needs
 
 loop-again : tie.Need-loop-again Inv-loop μ-loop
 loop-again c =
-    let e = c .before .before .before in
+    let e = c .before .before .before .before in
     let t = e .before .before in
-    let l = t .before .loop in (
+    let l = t .before .loop in
+    let small = t .before .before .pre .1 .0 in (
       search needs,
-      passed-more _ _ _ _ _ (l .inv .1) _ _ (t .before .before .pre .1 .0) (t .loop-test .taken) (sym (e .check-line .ensures) ∙ c .before .enum-told .given .1) (c .steps-of .ensures .0) (c .steps-of .ensures .1),
+      passed-more _ _ _ _ _ (l .inv .1) _ _ small (t .loop-test .taken) (sym (e .check-line .ensures) ∙ c .before .before .enum-told .given .1) (rw (c .before .way-of .ensures) at (c .steps-of .ensures .0)) (omega (arith, c .steps-of .ensures .1, small)),
     )
 
 returns-2 : tie.Need-returns-2 Inv-loop μ-loop
