@@ -1,7 +1,7 @@
 // A step as one number, laid out as `specs/Words.antt` says. An operation has the number by which `alu_call` knows it.
 // In a contract `only` and `either` are the definitions of specs/, not the functions here.
 ghost use mathlib.Core.Path.{_≡_};
-ghost use Prim.Native.Nat.{_<_, _^_, _%_};
+ghost use Prim.Native.Nat.{_%_};
 ghost use Rattle.recipe_calls.specs.Words.{byteRadix, only, either, madeOf, noStep, sizedOf, stepOf};
 ghost use Rattle.recipe_calls.specs.Words.{sizeNumber, registerKind, registerNumber, countKind, countNumber, sourceKind, sourceNumber, destinationNumber, stepWord};
 use alu::types::Size;

@@ -1,5 +1,4 @@
 -- `end_numbers` meets its contract, end by end. Assumes nothing.
-use mathlib.Core.Path.{_∙_}
 use borrow.Author.Needs.{needs}
 use Rattle.recipe_calls.proofs.end_numbers.Statement.{statement}
 use Rattle.recipe_calls.proofs.end_numbers.Tie as tie
@@ -9,6 +8,5 @@ end-numbers-spec =
     tie.close
     (tie.spec
     (λ c. search needs) (λ c. search needs) (λ c. search needs) (λ c. search needs) (λ c. search needs) (λ c. search needs) (λ c. search needs)
-    (λ c. search needs)
-    (λ c. rw (c .before .before .end .given .1, c .class .ensures))
+    (λ c. search needs) (λ c. search needs) (λ c. search needs) (λ c. rw (c .before .before .end .given .1, c .class .ensures))
     (λ c. rw (c .before .before .end2 .given .1, c .number .ensures)))

@@ -6,7 +6,7 @@ use Rattle.recipe_calls.proofs.listing_run.Tie as tie
 
 returns : tie.Need-returns
 returns c =
-    let f = c .before in
+    let f = c .before .before in
     let r = f .before .before .before .before .before .before in
     rw (
       f .ccr .ensures,
@@ -22,4 +22,4 @@ listing-run-spec =
     tie.close
     (tie.spec
     (λ c. search needs) (λ c. search needs) (λ c. search needs) (λ c. search needs) (λ c. search needs) (λ c. search needs) (λ c. search needs)
-    (λ c. search needs) returns)
+    (λ c. search needs) (λ c. search needs) returns)

@@ -5,12 +5,12 @@ use Rattle.recipe_calls.proofs.recipe_run.Tie as tie
 
 returns : tie.Need-returns
 returns c =
-    let n = c .before in
-    let r = n .before .before .before in
+    let n = c .before .before in
+    let r = n .before .before .before .before .before .before in
     rw (
-      c .promised .ensures,
-      n .number .ensures,
-      n .before .ccr-after .ensures,
+      n .promised .ensures,
+      n .before .number .ensures,
+      n .before .before .ccr-after .ensures,
       r .run-text .ensures,
       r .before .flags-of .ensures,
     )
@@ -19,4 +19,5 @@ pub recipe-run-spec : {M : Type 1} → statement M
 recipe-run-spec =
     tie.close
     (tie.spec
-    (λ c. search needs) (λ c. search needs) (λ c. search needs) (λ c. search needs) (λ c. search needs) returns)
+    (λ c. search needs) (λ c. search needs) (λ c. search needs) (λ c. search needs) (λ c. search needs) (λ c. search needs) (λ c. search needs)
+    (λ c. search needs) returns)

@@ -10,15 +10,15 @@ use Rattle.recipe_calls.proofs.recipe_translate.Tie as tie
 returns : tie.Need-returns
 returns c =
     let n = c .before .before in
-    let r = n .before .before in
+    let r = n .before .before .before in
     let a = r .before .before .before .args in
     rw (c .translation-told .ensures) (slipped (a .text .now) (a .listing .now) (r .read .result) (r .read .ensures) (sym (n .is-nothing .ensures) ∙ not-true (n .is-nothing .result) (c .before .if1 .taken)))
 
 returns-2 : tie.Need-returns-2
 returns-2 c =
-    let m = c .before .before .before .before .before in
+    let m = c .before .before .before .before .before .before in
     let n = m .before .before in
-    let r = n .before .before in
+    let r = n .before .before .before in
     let a = r .before .before .before .args in
     rw (c .translation-told2 .ensures, c .before .at-line .ensures)
     (short (a .listing .now) (r .read .result .recipe) (rw (← m .translate-array .ensures) (c .before .before .if2 .taken))
@@ -28,9 +28,9 @@ returns-3 : tie.Need-returns-3
 returns-3 c =
     let s = c .before .before .before in
     let i = s .before .before in
-    let m = i .before .before .before in
+    let m = i .before .before .before .before in
     let n = m .before .before in
-    let r = n .before .before in
+    let r = n .before .before .before in
     let a = r .before .before .before .args in
     let t = r .read .result .recipe in
     rw (c .translation-told3 .ensures, s .put-steps .ensures)

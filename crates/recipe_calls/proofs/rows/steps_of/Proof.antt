@@ -2,8 +2,8 @@
 use mathlib.Core.Path.{_≡_, refl}
 use Prim.Native.Nat.{_-_, _<_, _≤_}
 use mathlib.Core.List.{map}
-use lib.ListN.{length, take, getD, length-set}
-use Rattle.recipe_calls.specs.Words.{stepOf, noStep}
+use lib.ListN.{length, take}
+use Rattle.recipe_calls.specs.Words.{stepOf}
 use Rattle.recipe_calls.proofs.Turns.{turned, filled}
 use borrow.Author.Needs.{needs}
 use Rattle.recipe_calls.proofs.rows.steps_of.Statement.{statement}
