@@ -5,6 +5,7 @@
 // The figure FF stands for none: the crate returns no figure of ADDX and SUBX. The class is CHK's, 0 of
 // the others; 1 stands for Over or Short, which the crate doesn't tell apart.
 ghost use Prim.Native.Nat.{_+_, _<_, _≤_, _^_};
+use text::numbers::worth;
 
 pub(crate) struct Line {
     pub op: u8,
@@ -18,12 +19,11 @@ pub(crate) struct Line {
     pub class: u32,
 }
 
-// A hexadecimal digit's value. Of another byte it is some number, and the line then fails.
+// A hexadecimal digit's value. A byte that is none counts as 0, and the line then fails.
 fn digit(b: u8) -> u32
     ensures { λ r. ⌜ r < 16 ⌝ }
 {
-    let low = b as u32 % 16;
-    if b < 64 { low } else { (low + 9) % 16 }
+    (worth(b) % 16) as u32
 }
 
 fn two(line: &[u8; 43], at: usize) -> u32
