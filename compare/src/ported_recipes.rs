@@ -12,19 +12,24 @@ type Refusal = u8;
 /// Their numbers; 0 is none.
 const NUMBERS: [u8; 7] = [0, 4, 5, 6, 7, 8, 9];
 
+/// recipes::types::Refused
+#[repr(C)]
+struct RefusedAt {
+    refusal: Refusal,
+    line: usize,
+}
+
 /// recipes::types::Reading
 #[repr(C)]
 struct Reading {
-    refusal: Refusal,
-    line: usize,
+    refused: RefusedAt,
     recipe: Recipe,
 }
 
 /// recipes::types::Translated
 #[repr(C)]
 struct Translated {
-    refusal: Refusal,
-    line: usize,
+    refused: RefusedAt,
     count: usize,
 }
 
@@ -41,10 +46,16 @@ unsafe extern "C" {
     fn recipes_lent_translate(answer: *mut Translated, recipe: *const Recipe, listing: *const Slice<Step>);
 }
 
+impl RefusedAt {
+    fn number(&self) -> u8 {
+        NUMBERS[usize::from(self.refusal)]
+    }
+}
+
 impl Translated {
     /// As the C function recipe_translate tells it: the refusal's number, its line and the number of steps.
     fn told(&self) -> [usize; 3] {
-        [NUMBERS[usize::from(self.refusal)].into(), self.line, self.count]
+        [self.refused.number().into(), self.refused.line, self.count]
     }
 }
 
@@ -59,7 +70,7 @@ fn answered<T>(ask: impl FnOnce(*mut T)) -> T {
 pub fn read(text: &[u8]) -> (Refused, Recipe) {
     // SAFETY: the pointers are to live values, and the port keeps none of them.
     let reading: Reading = answered(|answer| unsafe { recipes_reader_read(answer, &Slice::lent(text)) });
-    (Refused { number: NUMBERS[usize::from(reading.refusal)], line: reading.line }, reading.recipe)
+    (Refused { number: reading.refused.number(), line: reading.refused.line }, reading.recipe)
 }
 
 /// For a measurement of `translate_array`: the steps. The listing stays where the port wrote it.
