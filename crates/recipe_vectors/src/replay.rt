@@ -166,8 +166,9 @@ fn halted_at(vector: Vector, listing: [Step; SLOTS], place: u32) -> Slip
     requires { ⌜ place ≤ vector .steps ⌝ }
 {
     let count = vector.steps;
-    let part = resumed(listing, count as usize, not_begun(vector), place);
-    let whole = resumed(listing, count as usize, part, count - place);
+    let steps = count as usize;
+    let part = resumed(listing, steps, not_begun(vector), place);
+    let whole = resumed(listing, steps, part, count - place);
     first_of(judge_halt(vector, part, place), judge(vector, whole))
 }
 
@@ -192,14 +193,15 @@ fn halted_at_each(vector: Vector, listing: [Step; SLOTS]) -> Replayed {
 // Halted after every step: a run of no step, then runs of one.
 fn step_by_step(vector: Vector, listing: [Step; SLOTS]) -> Replayed {
     let count = vector.steps;
+    let steps = count as usize;
     let mut runs: u64 = 1;
-    let mut ran = resumed(listing, count as usize, not_begun(vector), 0);
+    let mut ran = resumed(listing, steps, not_begun(vector), 0);
     for place in 0..count {
         let slip = judge_halt(vector, ran, place);
         if is_slip(slip) {
             return Replayed { runs, slip, place };
         }
-        ran = resumed(listing, count as usize, ran, 1);
+        ran = resumed(listing, steps, ran, 1);
         runs = std::num::wrapping_add_u64(runs, 1);
     }
     Replayed {

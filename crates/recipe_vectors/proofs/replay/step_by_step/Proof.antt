@@ -5,14 +5,15 @@ use Rattle.recipe_vectors.proofs.replay.step_by_step.Statement.{stateme
 use Rattle.recipe_vectors.proofs.replay.step_by_step.Tie as tie
 
 abbrev Inv-loop : tie.InvT-loop
-Inv-loop vector listing count runs₀ ran₀ place₀ runs ran place = (place ≤ count) × (count < 4294967296)
+Inv-loop vector listing count steps runs₀ ran₀ place₀ runs ran place = (place ≤ count) × (count < 4294967296)
 
 abbrev μ-loop : tie.MeasureT-loop
-μ-loop vector listing count runs₀ ran₀ place₀ runs ran place = count - place
+μ-loop vector listing count steps runs₀ ran₀ place₀ runs ran place = count - place
 
 pub step-by-step-spec : {M : Type 1} → statement M
 step-by-step-spec =
     tie.close
     (tie.spec
-    Inv-loop μ-loop (search needs) (search needs) (search needs) (search needs) (search needs) (λ c. search needs) (search needs) (search needs)
-    (search needs) (search needs) (search needs) (search needs) (search needs) (search needs) (λ c. search needs))
+    Inv-loop μ-loop (λ c. search needs) (λ c. search needs) (λ c. search needs) (λ c. search needs) (λ c. search needs) (λ c. search needs)
+    (λ c. search needs) (λ c. search needs) (λ c. search needs) (λ c. search needs) (λ c. search needs) (λ c. search needs) (λ c. search needs)
+    (λ c. search needs) (λ c. search needs) (λ c. search needs))
