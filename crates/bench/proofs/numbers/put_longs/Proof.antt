@@ -1,4 +1,4 @@
--- `numbers::put_longs` is safe and ends: it counts the words down. Assumes nothing.
+-- `numbers::put_longs` is safe and ends: it counts the long words down. Assumes nothing.
 use borrow.Author.Needs.{needs}
 use Rattle.bench.proofs.numbers.put_longs.Statement.{statement}
 use Rattle.bench.proofs.numbers.put_longs.Tie as tie

@@ -9,10 +9,10 @@ use Rattle.bench.proofs.numbers.put_value.Statement.{statement}
 use Rattle.bench.proofs.numbers.put_value.Tie as tie
 
 abbrev Inv-loop : tie.InvT-loop
-Inv-loop pen width k digits₀ words₀ i₀ digits words i = (i ≤ 39) × (length digits ≡ 39)
+Inv-loop pen width k digits₀ longs₀ i₀ digits longs i = (i ≤ 39) × (length digits ≡ 39)
 
 abbrev μ-loop : tie.MeasureT-loop
-μ-loop pen width k digits₀ words₀ i₀ digits words i = i
+μ-loop pen width k digits₀ longs₀ i₀ digits longs i = i
 
 sub-put : tie.Need-sub-put Inv-loop μ-loop
 sub-put c = ⊎-elim (λ w. omega arith) (λ w. omega arith) (c .before .loop-test .came)
