@@ -1,5 +1,5 @@
 -- The condition codes: the Manual's table of condition code computations, its rows of integer arithmetic and of the logic operations. (V and C of
--- the shifts are in Shifts, CHK's flags in Arith, Z of the bit operations in Bitops.)
+-- the shifts are in Shifts, CHK's flags in Arith, Z of the bit operations in Bitops.) And the flags as one byte.
 -- s, d and r are the source, the destination and the result; the formulas take their top bits Sm, Dm, Rm. n is the number of bits;
 -- the field `n` of `Flags` is the flag N. Assumes nothing.
 use Prim.Native.Nat.{ℕ, _+_, _*_}

@@ -1,5 +1,5 @@
 -- Laws of the printed listing, one for each turn of a printer's loop. Assumes nothing.
-use Prim.Native.Nat.{ℕ, suc, _+_, _≤_, _<_}
+use Prim.Native.Nat.{ℕ, suc, _+_, _<_}
 use mathlib.Core.List.{List, [], _∷_, _++_, append-nil, append-assoc}
 use mathlib.Core.Path.{_≡_}
 use native.Mathlib.Numerals.{add-one}

@@ -90,9 +90,9 @@ refused-by r s =
     tests-agree (λ (l : Listing) (t : RecipeRun). isNothing (l .refused) ≡ false → untouched s (l .refused) ≡ t) (λ k. listed k 0 blanks) (untouched s)
     (λ k e h. refl) r _ _ (λ g h. absurd (true≢false (sym (ap (λ (l : Listing). isNothing (l .refused)) (whole-fits (r .width) (recipeLines r) blanks (blanks-fit r (width-is (r .width) (g .width) .1) (g .few)))) ∙ h)))
 
-pub run-refused : (r : Recipe) (s : State) (made : Listing) → made ≡ translateOf r blanks → isNothing (made .refused) ≡ false
+pub recipe-refused : (r : Recipe) (s : State) (made : Listing) → made ≡ translateOf r blanks → isNothing (made .refused) ≡ false
     → untouched s (made .refused) ≡ recipeRunOf r s
-run-refused r s made is = subst⁻¹ (λ (l : Listing). isNothing (l .refused) ≡ false → untouched s (l .refused) ≡ recipeRunOf r s) is (refused-by r s)
+recipe-refused r s made is = subst⁻¹ (λ (l : Listing). isNothing (l .refused) ≡ false → untouched s (l .refused) ≡ recipeRunOf r s) is (refused-by r s)
 
 pub made-good : (r : Recipe) (made : Listing) → made ≡ translateOf r blanks → isNothing (made .refused) ≡ true → Good r
 made-good r made is e = translated-good r blanks (subst (λ (l : Listing). isNothing (l .refused) ≡ true) is e) .0

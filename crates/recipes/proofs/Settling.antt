@@ -6,7 +6,7 @@
 --     blanks-hold     and no more than the array
 --     settled-room    what is told of it for a row of slots has no more steps than the row
 --     settled-count   and no more than the array has
-use Prim.Native.Nat.{ℕ, _+_, _≤_, _<_, min}
+use Prim.Native.Nat.{ℕ, _≤_, _<_, min}
 use mathlib.Core.Bool.{Bool, true, false, cond}
 use mathlib.Core.List.{List, _++_}
 use mathlib.Core.Path.{_≡_, refl, sym}

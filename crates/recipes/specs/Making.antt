@@ -1,6 +1,5 @@
 -- Terms of private functions' contracts: an operand's field, the translator's parts, and what a run tells of the flags. No contract of a
 -- public function names anything of this page, and a reader can leave it out. Assumes nothing.
-use mathlib.Core.Path.{_≡_}
 use mathlib.Core.Bool.{Bool, cond, _&&_}
 use mathlib.Core.List.{List, [], _∷_}
 use Prim.Native.Nat.{ℕ, _+_, _-_, _*_, _/_, _%_, _≤_, _<_}
@@ -51,7 +50,7 @@ offsetOf way w i = cond (way .falls) (w - 1 - i) i
 
 -- what the steps of a line have in common
 abbrev pub jobOf : (w : ℕ) → Line → Job
-jobOf w l = record { way = wayOf (l .verb); from = l .a * w; to = target l * w; steps = stepsAt (l .verb) * w }
+jobOf w l = record { way = wayOf (l .verb); from = l .a * w; to = target l * w; steps = stepsBy (wayOf (l .verb)) * w }
 
 -- step j
 abbrev pub jobStep : (w : ℕ) → Job → (j : ℕ) → Step

@@ -35,7 +35,7 @@ numberOf OntoItself = 7
 numberOf TooManyLines = 8
 numberOf NoSpace = 9
 
--- a refusal with its text line; none has line 0
+-- a refusal with its text line, 0 where no line is to blame; where nothing is refused the line is 0 too
 abbrev pub atLine : Refusal → (line : ℕ) → Refused
 atLine k line = record { refusal = k; line = line }
 
@@ -48,12 +48,13 @@ isNothing k = eqb (numberOf (k .refusal)) 0
 -- ---- verbs: a row for each
 
 abbrev pub way : («takes_two» clears : Bool) → (first other : Act) → (falls tells : Bool) → Way
-way two clears first other falls tells =
-    record { «takes_two» = two; clears = clears; first = first; other = other; falls = falls; tells = tells }
+way takes clears first other falls tells =
+    record { «takes_two» = takes; clears = clears; first = first; other = other; falls = falls; tells = tells }
 
 -- whether a verb takes two numbers; whether a CLR stands before each of its steps; its step at the first register that it takes, and at each other;
--- whether it takes the highest register first; whether all five flags behind it are those of the whole number
+-- whether it takes the highest register first; whether all five flags behind it are told, as those of the whole number
 abbrev pub wayOf : Verb → Way
+-- columns: takes two | CLR before each | first step | other steps | highest first | flags told
 wayOf Clear = way false false (One OneOp.Clr) (One OneOp.Clr) false false
 wayOf Copy = way true true (Two TwoOp.Add) (Two TwoOp.Add) false false
 wayOf Add = way true false (Two TwoOp.Add) (Two TwoOp.Addx) false true
@@ -67,7 +68,7 @@ wayOf Up = way false false (Shift Lsl) (Shift Roxl) false false
 abbrev pub takesTwo : Verb → Bool
 takesTwo v = wayOf v .«takes_two»
 
--- copy alone has a CLR
+-- copy alone has a CLR before each of its steps
 abbrev pub isCopy : Verb → Bool
 isCopy v = wayOf v .clears
 
@@ -75,7 +76,7 @@ isCopy v = wayOf v .clears
 
 -- the number that a line changes
 abbrev pub goalOf : Way → Line → ℕ
-goalOf way l = cond (way .«takes_two») (l .b) (l .a)
+goalOf y l = cond (y .«takes_two») (l .b) (l .a)
 
 abbrev pub target : Line → ℕ
 target l = goalOf (wayOf (l .verb)) l

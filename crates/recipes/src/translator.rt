@@ -2,7 +2,7 @@
 // down highest first. In a contract `long`, `blank` and `translation` are the definitions of specs/ that the functions of that
 // name are held to.
 ghost use mathlib.Core.Path.{_≡_};
-ghost use Prim.Native.Nat.{_/_, _%_, _*_, _+_, _-_, _<_, _≤_, _^_};
+ghost use Prim.Native.Nat.{_/_, _%_, _*_, _<_, _≤_, _^_};
 ghost use lib.ListN.{getD, take};
 ghost use Rattle.recipes.specs.Recipe.{linesMax, unused};
 ghost use Rattle.recipes.specs.Listing.{long, formOf, stepOf, blank, blanks, listingOf, over, translateOf, atRest, figureOf, clocksOf};

@@ -54,7 +54,7 @@ pub enum Refusal {
     NoSpace,
 }
 
-// A refusal and the text line that it is of, counted from 1; the line is 0 where nothing is refused.
+// A refusal and the text line that it is of, counted from 1; 0 where no line is to blame, and where nothing is refused.
 pub struct Refused {
     pub refusal: Refusal,
     pub line: usize,

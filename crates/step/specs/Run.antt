@@ -65,8 +65,8 @@ module _ (f : State → Step → Performed) (l : List Step) where
 abbrev pub wrapped : Ran → Ran
 wrapped r = record { end = r .end; state = r .state; next = r .next; steps = r .steps % 2 ^ 32; clocks = r .clocks % 2 ^ 64 }
 
--- A run taken up again as r left it, from its state and its next place, with the budget b: steps and clocks add. Where r is itself a run and the budgets
--- are below 2 ^ 32 together, nothing wraps, and the two are one run: `resumed-split` of proofs/Resumed
+-- A run taken up again as r left it, from its state and its next place, with the budget b: steps and clocks add. Where r is itself a run that was neither
+-- trapped nor refused, and the budgets are below 2 ^ 32 together, nothing wraps, and the two are one run: `resumed-split` of proofs/Resumed
 abbrev pub resumedOf : (State → Step → Performed) → List Step → Ran → (b : ℕ) → Ran
 resumedOf f l r b = wrapped (after (r .steps) (r .clocks) (runOf f l (r .state) (r .next) b))
 

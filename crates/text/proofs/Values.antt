@@ -105,8 +105,8 @@ value-next : (base : ℕ) (field : List ℕ) (i : ℕ) → i < length field
     → valueOf base (take (i + 1) field) ≡ valueOf base (take i field) * base + worthOf (getD field i 0)
 value-next base field i h = rw (add-one, take-suc field i 0 h) (value-more base 0 (take i field) (getD field i 0))
 
--- A turn of a loop that reads digits: its number is their value as long as that is below the limit. A value below `part` keeps below it with one digit
--- more, and no other does.
+-- A turn of a loop that reads digits: its number is their value as long as that is below the limit. Only a value below `part`
+-- can stay below it with one digit more.
 pub value-turn :
     (base part limit : ℕ) → 0 < base → limit ≤ part * base → (field : List ℕ) (i v n : ℕ) → i < length field
     → (valueOf base (take i field) < limit → v ≡ valueOf base (take i field))

@@ -61,7 +61,7 @@ abbrev pub counted : Digit → ℕ
 counted (Digit.Is d) = d
 counted Digit.Bad = 0
 
--- what a byte counts
+-- what a byte counts, in any base (A to F in decimal too: the field is then not the writing of its value)
 abbrev pub worthOf : ℕ → ℕ
 worthOf b = counted (hexDigit b)
 
@@ -70,7 +70,7 @@ unfoldable pub valueFrom : (base v : ℕ) → List ℕ → ℕ
 valueFrom base v [] = v
 valueFrom base v (x ∷ xs) = valueFrom base (v * base + worthOf x) xs
 
--- the value of a text's digits, the first counts most; a byte that is no digit counts as 0
+-- the value of a text's digits, the first counts most; a byte that is no hexadecimal digit counts as 0
 abbrev pub valueOf : (base : ℕ) → List ℕ → ℕ
 valueOf base xs = valueFrom base 0 xs
 

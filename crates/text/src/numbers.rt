@@ -7,7 +7,7 @@ use super::types::Decimal;
 use super::types::Digit;
 use super::types::Hex;
 
-// A value below these keeps below 2^64 and 2^32 with one digit more, and no other does.
+// Only a value below these can stay below 2^64, or 2^32, with one digit more; what it comes to may still wrap.
 const DECIMAL_PART: u64 = 1_844_674_407_370_955_162;
 
 const HEX_PART: u32 = 0x1000_0000;

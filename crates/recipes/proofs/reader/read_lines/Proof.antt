@@ -1,4 +1,4 @@
--- `recipes::reader::read_lines` meets its contract: a turn of the loop reads one line, by `proofs/Lines.antt`.
+-- `recipes::reader::read_lines` meets its contract: a turn of the loop reads one line, by `proofs/LineByLine.antt`.
 -- Assumes nothing.
 use Prim.Native.Nat.{ℕ, _+_, _≤_, _<_}
 use mathlib.Core.Path.{_≡_, refl, sym, _∙_}
@@ -9,9 +9,8 @@ use borrow.Author.Needs.{needs}
 use Rattle.recipes.specs.declared.types.Line.{Line}
 use Rattle.recipes.specs.Reader.{padded, orSlip, linesOf}
 use Rattle.text.specs.Text.{before, after}
-use Rattle.text.proofs.Texts.{from}
 use Rattle.recipes.specs.Recipe.{linesMax}
-use Rattle.text.proofs.Texts.{first-by}
+use Rattle.text.proofs.Texts.{from, first-by}
 use Rattle.recipes.proofs.LineByLine.{lines-many, lines-cut, lines-next, lines-done, padded-more}
 use Rattle.recipes.proofs.reader.read_lines.Statement.{statement}
 use Rattle.recipes.proofs.reader.read_lines.Tie as tie

@@ -1,6 +1,6 @@
 -- `recipes::runner::codes_after` meets its contract: the last line decides. Assumes nothing.
 use borrow.Author.Needs.{needs}
-use mathlib.Core.Path.{_≡_, sym, _∙_}
+use mathlib.Core.Path.{_≡_}
 use native.Mathlib.Omega.{arith}
 use lib.ListN.{length}
 use Rattle.recipes.proofs.Steps.{mapped}

@@ -3,7 +3,7 @@ use borrow.Author.Needs.{needs}
 use borrow.Author.Tests.{not-true, not-false}
 use mathlib.Core.Path.{sym, _∙_}
 use Rattle.recipes.specs.Demand.{EightLongs}
-use Rattle.recipes.proofs.RunByRule.{longs-owned, made-good, run-refused, run-ruled}
+use Rattle.recipes.proofs.RunByRule.{longs-owned, made-good, recipe-refused, run-ruled}
 use Rattle.recipes.proofs.runner.run_recipe.Statement.{statement}
 use Rattle.recipes.proofs.runner.run_recipe.Tie as tie
 
@@ -12,7 +12,7 @@ returns c =
     let i = c .before in
     let n = i .before in
     let t = n .before .before in
-    c .untouched .ensures ∙ run-refused _ _ _ (t .translate-array .ensures) (sym (n .is-nothing .ensures) ∙ not-true (n .is-nothing .result) (i .if1 .taken))
+    c .untouched .ensures ∙ recipe-refused _ _ _ (t .translate-array .ensures) (sym (n .is-nothing .ensures) ∙ not-true (n .is-nothing .result) (i .if1 .taken))
 
 codes-after-requires : tie.Need-codes-after-requires
 codes-after-requires c κs =

@@ -1,6 +1,5 @@
 -- `recipes::translator::index_of` meets its contract: a copy has two steps at a register. Assumes nothing.
 use native.Mathlib.Nat.{div-one}
-use borrow.Author.Needs.{needs}
 use Rattle.recipes.proofs.translator.index_of.Statement.{statement}
 use Rattle.recipes.proofs.translator.index_of.Tie as tie
 

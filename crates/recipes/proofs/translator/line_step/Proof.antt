@@ -1,5 +1,4 @@
 -- `recipes::translator::line_step` meets its contract: where step j stands, and what is done there. Assumes nothing.
-use Prim.Native.Nat.{_≤_, _+_}
 use borrow.Author.Needs.{needs}
 use Rattle.recipes.specs.Making.{stepsBy}
 use Rattle.recipes.proofs.Steps.{one-or-two}

@@ -1,6 +1,5 @@
 -- `recipes::translator::part_of` meets its contract: a copy has two steps at a register. Assumes nothing.
 use native.Mathlib.Nat.{mod-one}
-use borrow.Author.Needs.{needs}
 use Rattle.recipes.proofs.translator.part_of.Statement.{statement}
 use Rattle.recipes.proofs.translator.part_of.Tie as tie
 
