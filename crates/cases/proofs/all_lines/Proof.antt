@@ -1,5 +1,5 @@
 use borrow.Author.Needs.{needs}
-use Prim.Native.Nat.{_≤_, _-_}
+use Prim.Native.Nat.{_-_}
 use lib.ListN.{length}
 use Rattle.cases.proofs.all_lines.Statement.{statement}
 use Rattle.cases.proofs.all_lines.Tie as tie
