@@ -1,9 +1,9 @@
 // What reader and translator share: document 01's verbs, a row for each, and which lines a recipe may hold. In a contract
-// `target` is the definition of specs/, not the function here.
+// `target` and `unused` are the definitions of specs/, not the functions here.
 ghost use mathlib.Core.Path.{_≡_};
 ghost use mathlib.Core.Bool.{true, false};
 ghost use Rattle.recipes.specs.declared.lines.Act.the-variants.{One, Two, Shift};
-ghost use Rattle.recipes.specs.Recipe.{way, wayOf, goalOf, target, isWidth, lineChecked};
+ghost use Rattle.recipes.specs.Recipe.{way, wayOf, goalOf, target, isWidth, unused, lineChecked};
 use super::types::Line;
 use super::types::Refusal;
 use super::types::Verb;
@@ -28,6 +28,17 @@ pub(crate) struct Way {
     pub other: Act,
     pub falls: bool,
     pub tells: bool,
+}
+
+// What a slot past a recipe's lines holds: `clear 0`.
+pub(crate) fn unused() -> Line
+    ensures { λ r. ⌜ r ≡ unused ⌝ }
+{
+    Line {
+        verb: Verb::Clear,
+        a: 0,
+        b: 0,
+    }
 }
 
 // What a text line is read as: a recipe line, or why it is none.

@@ -11,6 +11,7 @@ ghost use Rattle.recipes.specs.Reader.{verbOf, onlyDigit, oneField, twoF
 use super::lines::LineRead;
 use super::lines::check_line;
 use super::lines::is_width;
+use super::lines::unused;
 use super::lines::way_of;
 use super::types::LINES_MAX;
 use super::types::Line;
@@ -158,12 +159,8 @@ fn read_width(row: &[u8]) -> u8
 fn no_lines() -> [Line; LINES_MAX]
     ensures { λ r. ⌜ r ≡ replicate linesMax unused ⌝ }
 {
-    let unused = Line {
-        verb: Verb::Clear,
-        a: 0,
-        b: 0,
-    };
-    [unused; LINES_MAX]
+    let none = unused();
+    [none; LINES_MAX]
 }
 
 fn reading(refused: Refused, width: u8, count: usize, lines: [Line; LINES_MAX]) -> Reading

@@ -13,6 +13,7 @@ use super::lines::Way;
 use super::lines::check_line;
 use super::lines::goal;
 use super::lines::is_width;
+use super::lines::unused;
 use super::lines::way_of;
 use super::types::LINES_MAX;
 use super::types::Line;
@@ -21,7 +22,6 @@ use super::types::Recipe;
 use super::types::Refusal;
 use super::types::Refused;
 use super::types::Translated;
-use super::types::Verb;
 use super::types::at_line;
 use super::types::no_refusal;
 use alu::types::Flags;
@@ -203,15 +203,7 @@ fn judge(recipe: Recipe) -> Translated
 fn line_at(lines: [Line; LINES_MAX], k: usize) -> Line
     ensures { λ r. ⌜ r ≡ getD lines k unused ⌝ }
 {
-    if k < LINES_MAX {
-        lines[k]
-    } else {
-        Line {
-            verb: Verb::Clear,
-            a: 0,
-            b: 0,
-        }
-    }
+    if k < LINES_MAX { lines[k] } else { unused() }
 }
 
 // The first `total` steps of the lines, and blank slots behind them.
