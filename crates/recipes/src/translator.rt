@@ -75,7 +75,7 @@ fn step_of(act: Act, p: u8, q: u8) -> Step
 fn blank() -> Step
     ensures { λ r. ⌜ r ≡ blank ⌝ }
 {
-    step_of(Act::One(OneOp::Clr), 255, 255)
+    long(Form::One(OneOp::Clr, D(255)))
 }
 
 // What step `part` of those at one register does. A copy has two, its CLR and its ADD.

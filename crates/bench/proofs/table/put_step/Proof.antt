@@ -5,10 +5,10 @@ use Rattle.bench.proofs.table.put_step.Statement.{statement}
 use Rattle.bench.proofs.table.put_step.Tie as tie
 
 abbrev Inv-loop : tie.InvT-loop
-Inv-loop printed place next₀ at₀ i₀ next at i = i ≤ 4
+Inv-loop place line next₀ at₀ i₀ next at i = i ≤ 4
 
 abbrev μ-loop : tie.MeasureT-loop
-μ-loop printed place next₀ at₀ i₀ next at i = 4 - i
+μ-loop place line next₀ at₀ i₀ next at i = 4 - i
 
 pub put-step-spec : {M : Type 1} → statement M
 put-step-spec =
