@@ -22,9 +22,7 @@ use Rattle.recipes.specs.declared.types.Translated.{Translated}
 use Rattle.recipes.specs.declared.types.Listing.{Listing}
 use Rattle.recipes.specs.declared.lines.Act.{Act}
 use Rattle.recipes.specs.declared.lines.Act.the-variants.{One, Two, Shift}
-use Rattle.recipes.specs.declared.lines.LineRead.{LineRead}
-use Rattle.recipes.specs.declared.lines.LineRead.the-variants.{Read, Slip}
-use Rattle.recipes.specs.Recipe.{linesMax, atLine, noRefusal, wayOf, isCopy, target, isWidth, recipeLines, lineChecked}
+use Rattle.recipes.specs.Recipe.{linesMax, atLine, noRefusal, wayOf, isCopy, target, isWidth, recipeLines, passes, lineRefusal}
 
 -- ---- the steps: all are long, from data register p to data register q; a shift is by #1
 
@@ -120,14 +118,10 @@ clocksOf (k ∷ ks) = figureOf k + clocksOf ks
 -- refusal answers, and `go` what is answered when all are passed
 
 module _ {R : Type 0} (refuse : Refused → R) where
-  abbrev pub unlessSlip : LineRead → (line : ℕ) → (go : R) → R
-  unlessSlip (Slip k) line go = refuse (atLine k line)
-  unlessSlip (Read l) line go = go
-
   -- the lines in turn, in a recipe of n numbers; the first has this text line
   unfoldable pub linesPass : (n line : ℕ) → List Line → (go : R) → R
   linesPass n line [] go = go
-  linesPass n line (l ∷ ls) go = unlessSlip (lineChecked n l) line (linesPass n (suc line) ls go)
+  linesPass n line (l ∷ ls) go = cond (passes (lineRefusal n l)) (linesPass n (suc line) ls go) (refuse (atLine (lineRefusal n l) line))
 
   abbrev pub tested : Recipe → (go : R) → R
   tested r go =

@@ -1,4 +1,4 @@
--- What is printed, as lists of bytes: document 01, the end of "Refusal numbers". Assumes nothing.
+-- What is printed, as lists of bytes: document 01, the end of "Refusal numbers", with document 02, item 1. Assumes nothing.
 use Prim.Native.Nat.{ℕ, suc}
 use mathlib.Core.Bool.{cond}
 use mathlib.Core.List.{List, [], _∷_, _++_}
@@ -100,9 +100,9 @@ listingText w steps =
 
 -- ---- a refusal, and answers
 
--- `refused`, its number and its line
+-- `refused`, its number, its line and its column
 unfoldable pub refusalText : Refused → List ℕ
-refusalText k = ascii "refused" ++ (fieldOf (numberOf (k .refusal)) ++ (fieldOf (k .line) ++ newline))
+refusalText k = ascii "refused" ++ (fieldOf (numberOf (k .refusal)) ++ (fieldOf (k .line) ++ (fieldOf (k .column) ++ newline)))
 
 abbrev pub listingPrinted : (w : ℕ) → Listing → List ℕ
 listingPrinted w l = cond (isNothing (l .refused)) (listingText w (take (l .count) (l .steps))) (refusalText (l .refused))
@@ -118,8 +118,8 @@ readingPrinted r = cond (isNothing (r .refused)) (printedOf (r .recipe)) (refusa
 unfoldable pub answerOf : List ℕ → List ℕ
 answerOf text = readingPrinted (readOf text)
 
--- the bytes that the program reads of a text (`cut-answers` of proofs/Cut: they are answered as the whole text is), and its room for an answer,
--- our own number (`answer-short` of proofs/Room: none is longer)
+-- the bytes that the program reads of a text, which are its text (`cut-line`, `cut-reads` and `cut-slips` of proofs/Cut: how far they are answered as the
+-- whole), and its room for an answer, our own number (`answer-short` of proofs/Room: none is longer)
 abbrev pub textMax : ℕ
 textMax = 1024
 

@@ -1,4 +1,5 @@
--- What recipe text means: document 01, "Recipes" and "Refusal numbers". A text is any list of bytes. Assumes nothing.
+-- What recipe text means: document 01, "Recipes" and "Refusal numbers", with document 02, item 1. A text is any list of bytes. A column counts the bytes
+-- of a text line from 1. Assumes nothing.
 use Prim.Native.Nat.{ℕ, _+_, _-_, _/_}
 use mathlib.Core.Bool.{cond}
 use mathlib.Core.List.{List, [], _∷_, _++_}
@@ -9,16 +10,16 @@ use Rattle.recipes.specs.declared.types.Verb.the-variants.{Clear, Copy, 
 use Rattle.recipes.specs.declared.types.Line.{Line}
 use Rattle.recipes.specs.declared.types.Reading.{Reading}
 use Rattle.recipes.specs.declared.types.Refusal.{Refusal}
-use Rattle.recipes.specs.declared.types.Refusal.the-variants.{WidthLine, Syntax, TooManyLines}
+use Rattle.recipes.specs.declared.types.Refusal.the-variants.{WidthLine, TooManyLines, UnknownVerb, WrongFields, NotADigit, NoNewline}
 use Rattle.recipes.specs.declared.types.Refused.{Refused}
 use Rattle.recipes.specs.declared.reader.VerbRead.{VerbRead}
 use Rattle.recipes.specs.declared.reader.VerbRead.the-variants.{Known, Unknown}
 use Rattle.text.specs.declared.types.Digit.{Digit}
 use Rattle.text.specs.declared.types.Digit.the-variants.{Is, Bad}
-use Rattle.recipes.specs.declared.lines.LineRead.{LineRead}
-use Rattle.recipes.specs.declared.lines.LineRead.the-variants.{Read, Slip}
+use Rattle.recipes.specs.declared.reader.LineRead.{LineRead}
+use Rattle.recipes.specs.declared.reader.LineRead.the-variants.{Read, Slip}
 use Rattle.text.specs.Text.{ascii, sameBytes, before, after, digitOf}
-use Rattle.recipes.specs.Recipe.{linesMax, takesTwo, isWidth, unused, lineChecked, atLine, noRefusal}
+use Rattle.recipes.specs.Recipe.{linesMax, takesTwo, isWidth, unused, passes, lineRefusal, atColumn, noRefusal}
 
 -- ---- answers
 
@@ -33,9 +34,9 @@ padded ls = ls ++ replicate (linesMax - length ls) unused
 abbrev pub accepted : (w : ℕ) → List Line → Reading
 accepted w ls = readingOf noRefusal w (length ls) (padded ls)
 
--- a refusal with its text line: the recipe has width 1 and no lines
-abbrev pub refusedAt : Refusal → (line : ℕ) → Reading
-refusedAt k line = readingOf (atLine k line) 1 0 (padded [])
+-- a refusal with its text line and column: the recipe has width 1 and no lines
+abbrev pub refusedAt : Refusal → (line column : ℕ) → Reading
+refusedAt k line column = readingOf (atColumn k line column) 1 0 (padded [])
 
 -- ---- fields
 
@@ -52,66 +53,81 @@ verbOf field =
     (cond (sameBytes field (ascii "up")) (Known Up)
     Unknown))))))))
 
--- ---- a line, without its byte 10: its first field is the verb, the others are numbers. Any other shape is 5
+-- ---- a line, without its byte 10: its first field is the verb, the others are numbers. A slip has a column
+
+-- the column of the byte behind a field: its tab, or the line's byte 10. `at` is that of the byte behind the field before, and 0 for the first: a field begins
+-- at column at + 1
+abbrev pub past : (at : ℕ) → (field : List ℕ) → ℕ
+past at field = at + 1 + length field
+
+-- a verb with the digit that it takes, which stands at column c; with two, at c and d: 13 at the first that is none
+abbrev pub withOne : Verb → (c : ℕ) → Digit → LineRead
+withOne v c (Is a) = Read (record { verb = v; a = a; b = 0 })
+withOne v c Bad = Slip NotADigit c
+
+abbrev pub withTwo : Verb → (c d : ℕ) → Digit → Digit → LineRead
+withTwo v c d (Is a) (Is b) = Read (record { verb = v; a = a; b = b })
+withTwo v c d (Is a) Bad = Slip NotADigit d
+withTwo v c d Bad e = Slip NotADigit c
+
+-- a verb that takes one number, and one that takes two, with the fields behind it, whose tab (or byte 10) has the column `at`: 12 at the early byte 10, or at
+-- the first field too many
+abbrev pub oneField : Verb → (at : ℕ) → List (List ℕ) → LineRead
+oneField v at [] = Slip WrongFields at
+oneField v at (f ∷ []) = withOne v (at + 1) (digitOf f)
+oneField v at (f ∷ g ∷ more) = Slip WrongFields (past at f + 1)
+
+abbrev pub twoFields : Verb → (at : ℕ) → List (List ℕ) → LineRead
+twoFields v at [] = Slip WrongFields at
+twoFields v at (f ∷ []) = Slip WrongFields (past at f)
+twoFields v at (f ∷ g ∷ []) = withTwo v (at + 1) (past at f + 1) (digitOf f) (digitOf g)
+twoFields v at (f ∷ g ∷ h ∷ more) = Slip WrongFields (past (past at f) g + 1)
+
+-- a field in the verb's place, with the fields after it
+abbrev pub fieldsOf : VerbRead → (at : ℕ) → List (List ℕ) → LineRead
+fieldsOf Unknown at fields = Slip UnknownVerb 1
+fieldsOf (Known v) at fields = cond (takesTwo v) (twoFields v at fields) (oneField v at fields)
+
+-- 6 and 7, which have no column
+abbrev pub lineChecked : (n : ℕ) → Line → LineRead
+lineChecked n l = cond (passes (lineRefusal n l)) (Read l) (Slip (lineRefusal n l) 0)
+
+abbrev pub thenChecked : (n : ℕ) → LineRead → LineRead
+thenChecked n (Slip k c) = Slip k c
+thenChecked n (Read l) = lineChecked n l
+
+-- a text line in a recipe of n numbers: 11, 12, 13, then 6 and 7
+unfoldable pub lineOf : (n : ℕ) → List ℕ → LineRead
+lineOf n row = thenChecked n (fieldsOf (verbOf (before 9 row)) (past 0 (before 9 row)) (after 9 row))
+
+-- ---- the lines after the width line. Behind the lines ls the next has text line `length ls + 2`
+
+-- what stands behind the last byte 10: nothing, or a line that lacks its byte 10, which is 14 at the place past the text
+abbrev pub endOf : (w : ℕ) → List Line → List ℕ → Reading
+endOf w ls [] = accepted w ls
+endOf w ls (x ∷ xs) =
+    cond (eqb (length ls) linesMax) (refusedAt TooManyLines (length ls + 2) 0)
+    (refusedAt NoNewline (length ls + 2) (past 0 (x ∷ xs)))
+
+abbrev pub orSlip : LineRead → (line : ℕ) → (Line → Reading) → Reading
+orSlip (Slip k c) line go = refusedAt k line c
+orSlip (Read l) line go = go l
+
+-- ls are the lines read so far; row and more are the rest of the text, parted at byte 10, so that a row with a part behind it is a whole line. On each
+-- line in turn 8, then 14, then those of `lineOf`
+unfoldable pub linesOf : (w : ℕ) → List Line → (row : List ℕ) → (more : List (List ℕ)) → Reading
+linesOf w ls row [] = endOf w ls row
+linesOf w ls row (next ∷ more) =
+    cond (eqb (length ls) linesMax) (refusedAt TooManyLines (length ls + 2) 0)
+    (orSlip (lineOf (8 / w) row) (length ls + 2) (λ l. linesOf w (ls ++ (l ∷ [])) next more))
+
+-- ---- the width line: 4 for every slip, without a column
 
 -- the digit that is the only field
 abbrev pub onlyDigit : List (List ℕ) → Digit
 onlyDigit [] = Bad
 onlyDigit (f ∷ []) = digitOf f
 onlyDigit (f ∷ g ∷ more) = Bad
-
--- a verb that takes one number, and one that takes two
-abbrev pub withOne : Verb → Digit → LineRead
-withOne v (Is a) = Read (record { verb = v; a = a; b = 0 })
-withOne v Bad = Slip Syntax
-
-abbrev pub withTwo : Verb → Digit → Digit → LineRead
-withTwo v (Is a) (Is b) = Read (record { verb = v; a = a; b = b })
-withTwo v (Is a) Bad = Slip Syntax
-withTwo v Bad d = Slip Syntax
-
-abbrev pub oneField : Verb → List (List ℕ) → LineRead
-oneField v fields = withOne v (onlyDigit fields)
-
-abbrev pub twoFields : Verb → List (List ℕ) → LineRead
-twoFields v [] = Slip Syntax
-twoFields v (f ∷ []) = Slip Syntax
-twoFields v (f ∷ g ∷ []) = withTwo v (digitOf f) (digitOf g)
-twoFields v (f ∷ g ∷ h ∷ more) = Slip Syntax
-
--- a field in the verb's place, with the fields after it
-abbrev pub fieldsOf : VerbRead → List (List ℕ) → LineRead
-fieldsOf Unknown fields = Slip Syntax
-fieldsOf (Known v) fields = cond (takesTwo v) (twoFields v fields) (oneField v fields)
-
-abbrev pub thenChecked : (n : ℕ) → LineRead → LineRead
-thenChecked n (Slip k) = Slip k
-thenChecked n (Read l) = lineChecked n l
-
--- a text line in a recipe of n numbers: 5, then 6 and 7
-unfoldable pub lineOf : (n : ℕ) → List ℕ → LineRead
-lineOf n row = thenChecked n (fieldsOf (verbOf (before 9 row)) (after 9 row))
-
--- ---- the lines after the width line. Behind the lines ls the next has text line `length ls + 2`
-
--- what stands behind the last byte 10: nothing, or a line that lacks its byte 10
-abbrev pub endOf : (w : ℕ) → List Line → List ℕ → Reading
-endOf w ls [] = accepted w ls
-endOf w ls (x ∷ xs) = cond (eqb (length ls) linesMax) (refusedAt TooManyLines (length ls + 2)) (refusedAt Syntax (length ls + 2))
-
-abbrev pub orSlip : LineRead → (line : ℕ) → (Line → Reading) → Reading
-orSlip (Slip k) line go = refusedAt k line
-orSlip (Read l) line go = go l
-
--- ls are the lines read so far; row and more are the rest of the text, parted at byte 10, so that a row with a part behind it is a whole line. On each
--- line in turn 8, then 5, 6, 7
-unfoldable pub linesOf : (w : ℕ) → List Line → (row : List ℕ) → (more : List (List ℕ)) → Reading
-linesOf w ls row [] = endOf w ls row
-linesOf w ls row (next ∷ more) =
-    cond (eqb (length ls) linesMax) (refusedAt TooManyLines (length ls + 2))
-    (orSlip (lineOf (8 / w) row) (length ls + 2) (λ l. linesOf w (ls ++ (l ∷ [])) next more))
-
--- ---- the width line
 
 -- the width that a digit gives, and 0 where it gives none
 abbrev pub widthDigit : Digit → ℕ
@@ -123,8 +139,8 @@ widthLine row = cond (sameBytes (before 9 row) (ascii "width")) (widthDigit (onl
 
 -- the first line, and the parts after it
 abbrev pub fromFirst : List ℕ → List (List ℕ) → Reading
-fromFirst row [] = refusedAt WidthLine 1
-fromFirst row (next ∷ more) = cond (eqb (widthLine row) 0) (refusedAt WidthLine 1) (linesOf (widthLine row) [] next more)
+fromFirst row [] = refusedAt WidthLine 1 0
+fromFirst row (next ∷ more) = cond (eqb (widthLine row) 0) (refusedAt WidthLine 1 0) (linesOf (widthLine row) [] next more)
 
 -- a recipe text
 unfoldable pub readOf : List ℕ → Reading

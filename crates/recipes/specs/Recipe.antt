@@ -1,4 +1,4 @@
--- Recipes: document 01, "Recipes" and "Refusal numbers". The verbs, and what a line may hold. Assumes nothing.
+-- Recipes: document 01, "Recipes" and "Refusal numbers", with document 02, item 1. The verbs, and what a line may hold. Assumes nothing.
 use Prim.Native.Nat.{ℕ, _/_, _<_}
 use mathlib.Core.Bool.{Bool, true, false, cond, _||_, _&&_}
 use mathlib.Core.List.{List, [], _∷_}
@@ -13,37 +13,45 @@ use Rattle.recipes.specs.declared.types.Verb.the-variants.{Clear, Copy, 
 use Rattle.recipes.specs.declared.types.Line.{Line}
 use Rattle.recipes.specs.declared.types.Recipe.{Recipe}
 use Rattle.recipes.specs.declared.types.Refusal.{Refusal}
-use Rattle.recipes.specs.declared.types.Refusal.the-variants.{Nothing, WidthLine, Syntax, NoSuchNumber, OntoItself, TooManyLines, NoSpace}
+use Rattle.recipes.specs.declared.types.Refusal.the-variants.{Nothing, WidthLine, NoSuchNumber, OntoItself, TooManyLines, NoSpace, UnknownVerb, WrongFields, NotADigit, NoNewline}
 use Rattle.recipes.specs.declared.types.Refused.{Refused}
 use Rattle.recipes.specs.declared.lines.Act.{Act}
 use Rattle.recipes.specs.declared.lines.Act.the-variants.{One, Two, Shift}
 use Rattle.recipes.specs.declared.lines.Way.{Way}
-use Rattle.recipes.specs.declared.lines.LineRead.{LineRead}
-use Rattle.recipes.specs.declared.lines.LineRead.the-variants.{Read, Slip}
 
 -- the most lines of a recipe
 abbrev pub linesMax : ℕ
 linesMax = 32
 
--- document 01's refusal numbers; 0 is none
+-- the refusal numbers of the two documents; 0 is none. Nothing is refused with 5, which 11 to 14 replace
 abbrev pub numberOf : Refusal → ℕ
 numberOf Nothing = 0
 numberOf WidthLine = 4
-numberOf Syntax = 5
 numberOf NoSuchNumber = 6
 numberOf OntoItself = 7
 numberOf TooManyLines = 8
 numberOf NoSpace = 9
+numberOf UnknownVerb = 11
+numberOf WrongFields = 12
+numberOf NotADigit = 13
+numberOf NoNewline = 14
 
--- a refusal with its text line, 0 where no line is to blame; where nothing is refused the line is 0 too
+-- a refusal with its text line and its column, in bytes; both count from 1. The line is 0 where none is to blame, the column of every number but 11 to 14,
+-- and both are where nothing is refused
+abbrev pub atColumn : Refusal → (line column : ℕ) → Refused
+atColumn k line column = record { refusal = k; line = line; column = column }
+
 abbrev pub atLine : Refusal → (line : ℕ) → Refused
-atLine k line = record { refusal = k; line = line }
+atLine k line = atColumn k line 0
 
 abbrev pub noRefusal : Refused
 noRefusal = atLine Nothing 0
 
+abbrev pub passes : Refusal → Bool
+passes k = eqb (numberOf k) 0
+
 abbrev pub isNothing : Refused → Bool
-isNothing k = eqb (numberOf (k .refusal)) 0
+isNothing k = passes (k .refusal)
 
 -- ---- verbs: a row for each
 
@@ -92,14 +100,14 @@ recipeLines r = take (r .count) (r .lines)
 abbrev pub unused : Line
 unused = record { verb = Clear; a = 0; b = 0 }
 
--- a line of a recipe of n numbers: 6 where it names a number that isn't there, then 7 where it copies a number onto itself
-unfoldable pub lineChecked : (n : ℕ) → Line → LineRead
-lineChecked n l =
-    cond (leb n (l .a) || leb n (target l)) (Slip NoSuchNumber)
-    (cond (isCopy (l .verb) && eqb (l .a) (target l)) (Slip OntoItself) (Read l))
+-- why a line may not stand in a recipe of n numbers: 6 where it names a number that isn't there, then 7 where it copies a number onto itself
+unfoldable pub lineRefusal : (n : ℕ) → Line → Refusal
+lineRefusal n l =
+    cond (leb n (l .a) || leb n (target l)) NoSuchNumber
+    (cond (isCopy (l .verb) && eqb (l .a) (target l)) OntoItself Nothing)
 
--- the same as a property: the source and the target of a line that passes are numbers, and it copies none onto itself (`checked-names` and
--- `names-checked` of proofs/Accepting)
+-- the same as a property: the source and the target of a line that passes are numbers, and it copies none onto itself (`passes-names` and
+-- `names-pass` of proofs/Accepting)
 pub record Names (n : ℕ) (l : Line) : Type 0 where
   pub source : l .a < n
   pub goal : target l < n

@@ -3,7 +3,7 @@
 ghost use mathlib.Core.Path.{_≡_};
 ghost use mathlib.Core.Bool.{true, false};
 ghost use Rattle.recipes.specs.declared.lines.Act.the-variants.{One, Two, Shift};
-ghost use Rattle.recipes.specs.Recipe.{way, wayOf, goalOf, target, isWidth, unused, lineChecked};
+ghost use Rattle.recipes.specs.Recipe.{way, wayOf, goalOf, target, isWidth, unused, lineRefusal};
 use super::types::Line;
 use super::types::Refusal;
 use super::types::Verb;
@@ -39,12 +39,6 @@ pub(crate) fn unused() -> Line
         a: 0,
         b: 0,
     }
-}
-
-// What a text line is read as: a recipe line, or why it is none.
-pub(crate) enum LineRead {
-    Read(Line),
-    Slip(Refusal),
 }
 
 // The ways of verbs that work on the target alone, on source and target, and by shifts.
@@ -125,18 +119,18 @@ pub(crate) fn is_width(width: u8) -> bool
     (width == 1) | (width == 2) | (width == 4)
 }
 
-// A line as it may stand in a recipe of so many numbers, or why it may not.
-pub(crate) fn check_line(numbers: u8, line: Line) -> LineRead
-    ensures { λ r. ⌜ r ≡ lineChecked numbers line ⌝ }
+// Why a line may not stand in a recipe of so many numbers: `Nothing` where it may.
+pub(crate) fn check_line(numbers: u8, line: Line) -> Refusal
+    ensures { λ r. ⌜ r ≡ lineRefusal numbers line ⌝ }
 {
     let verb = line.verb;
     let way = way_of(verb);
     let to = goal(way, line);
     if (numbers <= line.a) | (numbers <= to) {
-        return LineRead::Slip(Refusal::NoSuchNumber);
+        return Refusal::NoSuchNumber;
     }
     if way.clears & (line.a == to) {
-        return LineRead::Slip(Refusal::OntoItself);
+        return Refusal::OntoItself;
     }
-    LineRead::Read(line)
+    Refusal::Nothing
 }

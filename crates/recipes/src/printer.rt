@@ -154,14 +154,13 @@ fn put_steps(out: &mut [u8], at: usize, steps: [Step; SLOTS], count: usize) -> u
     next
 }
 
-// The first line of what is printed: a name and two numbers.
+// What each answer begins with: a name and two numbers.
 fn put_head(out: &mut [u8], name: &[u8], a: u64, b: u64) -> usize
-    ensures { λ r. ⌜ Wrote (now (out .entry)) 0 (now (name .entry) ++ (fieldOf a ++ (fieldOf b ++ newline))) (now (out .exit)) r ⌝ }
+    ensures { λ r. ⌜ Wrote (now (out .entry)) 0 (now (name .entry) ++ (fieldOf a ++ fieldOf b)) (now (out .exit)) r ⌝ }
 {
     let next = put_bytes(out, 0, name);
     let next = put_number(out, next, TAB, a);
-    let next = put_number(out, next, TAB, b);
-    put_byte(out, next, NEWLINE)
+    put_number(out, next, TAB, b)
 }
 
 // Prints a step as a line of a listing, at a place.
@@ -178,17 +177,20 @@ pub fn print(width: u8, steps: [Step; SLOTS], count: usize, out: &mut [u8]) -> u
     let many = lesser(count, SLOTS);
     let sum = clocks(steps, count);
     let next = put_head(out, b"width", width as u64, many as u64);
+    let next = put_byte(out, next, NEWLINE);
     let next = put_steps(out, next, steps, count);
     let next = put_bytes(out, next, b"clocks");
     let next = put_number(out, next, TAB, sum);
     put_byte(out, next, NEWLINE)
 }
 
-// Prints a refusal: `refused`, its number and its line.
+// Prints a refusal: `refused`, its number, its line and its column.
 pub fn print_refusal(refused: Refused, out: &mut [u8]) -> usize
     ensures { λ r. ⌜ written (now (out .exit)) r ≡ writing (now (out .entry)) 0 (refusalText refused) ⌝ }
 {
     let refusal = refused.refusal;
     let n = number(refusal);
-    put_head(out, b"refused", n as u64, refused.line as u64)
+    let next = put_head(out, b"refused", n as u64, refused.line as u64);
+    let next = put_number(out, next, TAB, refused.column as u64);
+    put_byte(out, next, NEWLINE)
 }

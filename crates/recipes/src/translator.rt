@@ -8,7 +8,6 @@ ghost use Rattle.recipes.specs.Recipe.{linesMax, unused};
 ghost use Rattle.recipes.specs.Listing.{long, formOf, stepOf, blank, blanks, listingOf, over, translateOf, atRest, figureOf, clocksOf};
 ghost use Rattle.recipes.specs.Making.{translation, actAt, offsetOf, stepsBy, jobOf, jobStep, StepOfJob, judgeOf, judgeLines, Layable};
 use super::lines::Act;
-use super::lines::LineRead;
 use super::lines::Way;
 use super::lines::check_line;
 use super::lines::goal;
@@ -24,6 +23,7 @@ use super::types::Refused;
 use super::types::Translated;
 use super::types::at_line;
 use super::types::no_refusal;
+use super::types::passes;
 use alu::types::Flags;
 use alu::types::Size;
 use step::forms::Count;
@@ -171,11 +171,9 @@ fn judge_lines(width: u8, count: usize, lines: [Line; LINES_MAX]) -> Translated
     while k < count {
         let line = lines[k];
         let verb = line.verb;
-        match check_line(numbers, line) {
-            LineRead::Slip(refusal) => {
-                return translation(at_line(refusal, k + 2), 0);
-            }
-            LineRead::Read(_) => {}
+        let refusal = check_line(numbers, line);
+        if !passes(refusal) {
+            return translation(at_line(refusal, k + 2), 0);
         }
         steps += steps_of(width, way_of(verb));
         k += 1;

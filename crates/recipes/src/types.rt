@@ -1,6 +1,6 @@
 // What a recipe is, its limits, why one is refused, and what its reader, its translator and its run answer.
 ghost use mathlib.Core.Path.{_≡_};
-ghost use Rattle.recipes.specs.Recipe.{numberOf, isNothing, atLine, noRefusal};
+ghost use Rattle.recipes.specs.Recipe.{numberOf, passes, isNothing, atColumn, atLine, noRefusal};
 use alu::types::Flags;
 use step::forms::Step;
 use step::runs::SLOTS;
@@ -11,7 +11,7 @@ pub const LINES_MAX: usize = 32;
 // The most steps of a recipe's listing.
 pub const STEPS_MAX: u32 = 256;
 
-// What a program reads of a text: a longer one meets its refusal within it (`cut-reads` of proofs/Cut).
+// What a program reads of a text: a longer one meets its refusal within it, on the same line (proofs/Cut).
 pub const TEXT_MAX: usize = 1024;
 
 // Room for what is printed of any recipe (`answer-short` of proofs/Room).
@@ -43,21 +43,26 @@ pub struct Recipe {
     pub lines: [Line; LINES_MAX],
 }
 
-// Why a text or a recipe is refused: document 01's numbers 4 to 9; `Nothing` is 0.
+// Why a text or a recipe is refused: 4, 6 to 9 of document 01 and 11 to 14 of document 02; `Nothing` is 0.
 pub enum Refusal {
     Nothing,
     WidthLine,
-    Syntax,
     NoSuchNumber,
     OntoItself,
     TooManyLines,
     NoSpace,
+    UnknownVerb,
+    WrongFields,
+    NotADigit,
+    NoNewline,
 }
 
-// A refusal and the text line that it is of, counted from 1; 0 where no line is to blame, and where nothing is refused.
+// A refusal, the text line that it is of, and the column in it, in bytes; both count from 1. The line is 0 where none is to
+// blame, the column for every refusal but 11 to 14, and both are where nothing is refused.
 pub struct Refused {
     pub refusal: Refusal,
     pub line: usize,
+    pub column: usize,
 }
 
 // What the reader answers. A refused text has a recipe of width 1 and no lines.
@@ -99,26 +104,40 @@ pub struct RecipeRun {
     pub clocks: u64,
 }
 
-// Document 01's number of a refusal, 0 for none.
+// The number of a refusal, 0 for none.
 pub fn number(refusal: Refusal) -> u8
     ensures { λ r. ⌜ r ≡ numberOf refusal ⌝ }
 {
     match refusal {
         Refusal::Nothing => 0,
         Refusal::WidthLine => 4,
-        Refusal::Syntax => 5,
         Refusal::NoSuchNumber => 6,
         Refusal::OntoItself => 7,
         Refusal::TooManyLines => 8,
         Refusal::NoSpace => 9,
+        Refusal::UnknownVerb => 11,
+        Refusal::WrongFields => 12,
+        Refusal::NotADigit => 13,
+        Refusal::NoNewline => 14,
     }
 }
 
 // Every refusal is made here.
+pub fn at_column(refusal: Refusal, line: usize, column: usize) -> Refused
+    ensures { λ r. ⌜ r ≡ atColumn refusal line column ⌝ }
+{
+    Refused {
+        refusal,
+        line,
+        column,
+    }
+}
+
+// A refusal that has no column.
 pub fn at_line(refusal: Refusal, line: usize) -> Refused
     ensures { λ r. ⌜ r ≡ atLine refusal line ⌝ }
 {
-    Refused { refusal, line }
+    at_column(refusal, line, 0)
 }
 
 pub(crate) fn no_refusal() -> Refused
@@ -128,9 +147,15 @@ pub(crate) fn no_refusal() -> Refused
 }
 
 // Whether nothing is refused.
+pub(crate) fn passes(refusal: Refusal) -> bool
+    ensures { λ r. ⌜ r ≡ passes refusal ⌝ }
+{
+    number(refusal) == 0
+}
+
 pub fn is_nothing(refused: Refused) -> bool
     ensures { λ r. ⌜ r ≡ isNothing refused ⌝ }
 {
     let refusal = refused.refusal;
-    number(refusal) == 0
+    passes(refusal)
 }
