@@ -4,7 +4,7 @@
 use Prim.Native.Nat.{ℕ, suc, _+_, _-_, _/_, _≤_, _<_}
 use mathlib.Core.Bool.{Bool, true, false, cond, false≢true}
 use mathlib.Core.List.{List, [], _∷_, _++_}
-use mathlib.Core.Path.{_≡_, refl, sym, _∙_, subst}
+use mathlib.Core.Path.{_≡_, refl, sym, ap, _∙_, subst}
 use native.Mathlib.Decide.{decLe}
 use native.Mathlib.Omega.{arith}
 use borrow.Author.Tests.{le-leb, leb-true, eqb-false}
@@ -12,88 +12,61 @@ use lib.Dec.{eqb, leb}
 use lib.ListN.{length, length-append, replicate}
 use lib.Seq.{take-append-seam}
 use Rattle.step.specs.declared.forms.Step.{Step}
-use Rattle.recipes.specs.declared.types.Verb.{Verb}
 use Rattle.recipes.specs.declared.types.Line.{Line}
 use Rattle.recipes.specs.declared.types.Listing.{Listing}
 use Rattle.recipes.specs.declared.types.Reading.{Reading}
 use Rattle.recipes.specs.declared.types.Recipe.{Recipe}
 use Rattle.recipes.specs.declared.types.Refusal.{Refusal}
-use Rattle.recipes.specs.declared.types.Refusal.the-variants.{Syntax, TooManyLines, WidthLine, NoSpace}
+use Rattle.recipes.specs.declared.types.Refusal.the-variants.{TooManyLines, WidthLine, NoSpace, NoNewline}
 use Rattle.recipes.specs.declared.types.Refused.{Refused}
-use Rattle.recipes.specs.declared.lines.LineRead.{LineRead}
-use Rattle.recipes.specs.declared.lines.LineRead.the-variants.{Read, Slip}
+use Rattle.recipes.specs.declared.reader.LineRead.{LineRead}
+use Rattle.recipes.specs.declared.reader.LineRead.the-variants.{Read, Slip}
 use Rattle.text.specs.declared.types.Digit.{Digit}
 use Rattle.text.specs.declared.types.Digit.the-variants.{Is, Bad}
-use Rattle.recipes.specs.declared.reader.VerbRead.{VerbRead}
-use Rattle.recipes.specs.declared.reader.VerbRead.the-variants.{Known, Unknown}
-use Rattle.text.specs.Text.{ascii, sameBytes, before, after, digitOf}
-use Rattle.recipes.specs.Recipe.{linesMax, numberOf, atLine, noRefusal, isNothing, takesTwo, isWidth, recipeLines, unused, lineChecked, Names, Accepted}
-use Rattle.recipes.specs.Reader.{refusedAt, verbOf, onlyDigit, withOne, withTwo, oneField, twoFields, fieldsOf, thenChecked, lineOf, orSlip, linesOf, widthDigit, widthLine, fromFirst, readOf}
+use Rattle.text.specs.Text.{ascii, sameBytes, before, after}
+use Rattle.recipes.specs.Recipe.{linesMax, passes, atLine, noRefusal, isNothing, isWidth, recipeLines, unused, lineRefusal, Names, Accepted}
+use Rattle.recipes.specs.Reader.{refusedAt, verbOf, past, onlyDigit, fieldsOf, lineChecked, thenChecked, lineOf, orSlip, linesOf, widthDigit, widthLine, fromFirst, readOf}
 use Rattle.recipes.specs.Listing.{linesPass, tested, listingOf, stepsOf, over, listed, translateOf}
-use Rattle.recipes.proofs.Accepting.{Good, no-read, checked-names, checked-same, checked-slip, names-checked, tests-agree}
-
--- ---- a slip has a number
-
-abbrev pub HasNumber : LineRead → Type 0
-HasNumber (Slip k) = eqb (numberOf k) 0 ≡ false
-HasNumber (Read l) = Unit {0}
-
-one-number : (v : Verb) (d : Digit) → HasNumber (withOne v d)
-one-number v (Is a) = tt
-one-number v Bad = refl
-
-two-number : (v : Verb) (d e : Digit) → HasNumber (withTwo v d e)
-two-number v (Is a) (Is b) = tt
-two-number v (Is a) Bad = refl
-two-number v Bad (Is b) = refl
-two-number v Bad Bad = refl
-
-pair-number : (v : Verb) (fields : List (List ℕ)) → HasNumber (twoFields v fields)
-pair-number v [] = refl
-pair-number v (f ∷ []) = refl
-pair-number v (f ∷ g ∷ []) = two-number v (digitOf f) (digitOf g)
-pair-number v (f ∷ g ∷ h ∷ more) = refl
-
-words-number : (w : VerbRead) (fields : List (List ℕ)) → HasNumber (fieldsOf w fields)
-words-number Unknown fields = refl
-words-number (Known v) fields = go (takesTwo v)
-  where
-    go : (t : Bool) → HasNumber (cond t (twoFields v fields) (oneField v fields))
-    go true = pair-number v fields
-    go false = one-number v (onlyDigit fields)
-
-checked-number : (n : ℕ) (l : Line) → HasNumber (lineChecked n l)
-checked-number n l = go (lineChecked n l) refl
-  where
-    go : (c : LineRead) → lineChecked n l ≡ c → HasNumber c
-    go (Slip k) e = checked-slip n l k e
-    go (Read m) e = tt
-
-then-number : (n : ℕ) (c : LineRead) → HasNumber c → HasNumber (thenChecked n c)
-then-number n (Slip k) h = h
-then-number n (Read l) h = checked-number n l
-
-pub line-number : (n : ℕ) (row : List ℕ) → HasNumber (lineOf n row)
-unfolding lineOf
-line-number n row = then-number n (fieldsOf (verbOf (before 9 row)) (after 9 row)) (words-number (verbOf (before 9 row)) (after 9 row))
+use Rattle.recipes.proofs.Accepting.{Good, passes-names, names-pass, tests-agree}
+use Rattle.recipes.proofs.Columns.{Slips, line-slips}
 
 -- ---- a line that is read names numbers
 
+isRead : LineRead → Bool
+isRead (Read l) = true
+isRead (Slip k c) = false
+
+lineIn : Line → LineRead → Line
+lineIn other (Read l) = l
+lineIn other (Slip k c) = other
+
+pub no-read : {k : Refusal} {c : ℕ} {m : Line} → Slip k c ≡ Read m → ⊥
+unfolding isRead
+no-read e = false≢true (ap isRead e)
+
+checked-names : (n : ℕ) (l m : Line) → lineChecked n l ≡ Read m → Names n m
+unfolding lineIn
+checked-names n l m e = go (passes (lineRefusal n l)) refl e
+  where
+    go : (t : Bool) → passes (lineRefusal n l) ≡ t → cond t (Read l) (Slip (lineRefusal n l) 0) ≡ Read m → Names n m
+    go true p e = subst (Names n) (ap (lineIn l) e) (passes-names n l p)
+    go false p e = absurd (no-read e)
+
 then-names : (n : ℕ) (c : LineRead) (m : Line) → thenChecked n c ≡ Read m → Names n m
-then-names n (Slip k) m e = absurd (no-read e)
-then-names n (Read l) m e = subst (Names n) (checked-same n l m e) (checked-names n l m e)
+then-names n (Slip k c) m e = absurd (no-read e)
+then-names n (Read l) m e = checked-names n l m e
 
 line-names : (n : ℕ) (row : List ℕ) (m : Line) → lineOf n row ≡ Read m → Names n m
 unfolding lineOf
-line-names n row m e = then-names n (fieldsOf (verbOf (before 9 row)) (after 9 row)) m e
+line-names n row m e = then-names n (fieldsOf (verbOf (before 9 row)) (past 0 (before 9 row)) (after 9 row)) m e
 
 -- ---- a reading
 
 abbrev Sound : Reading → Type 0
 Sound r = isNothing (r .refused) ≡ true → Good (r .recipe)
 
-refused-sound : (k : Refusal) (line : ℕ) → eqb (numberOf k) 0 ≡ false → Sound (refusedAt k line)
-refused-sound k line e h = absurd (false≢true (sym e ∙ h))
+refused-sound : (k : Refusal) (line column : ℕ) → passes k ≡ false → Sound (refusedAt k line column)
+refused-sound k line column e h = absurd (false≢true (sym e ∙ h))
 
 snoc-accepted : (w : ℕ) (ls : List Line) (l : Line) → Accepted w ls → Names (8 / w) l → Accepted w (ls ++ (l ∷ []))
 snoc-accepted w [] l a h = (h, tt)
@@ -105,24 +78,24 @@ lines-sound w ls [] [] i h a =
     λ e. record { width = i; few = h; lines = subst (Accepted w) (sym (take-append-seam ls (replicate (linesMax - length ls) unused))) a }
 lines-sound w ls (x ∷ xs) [] i h a = go (eqb (length ls) linesMax)
   where
-    go : (t : Bool) → Sound (cond t (refusedAt TooManyLines (length ls + 2)) (refusedAt Syntax (length ls + 2)))
-    go true = refused-sound TooManyLines (length ls + 2) refl
-    go false = refused-sound Syntax (length ls + 2) refl
+    go : (t : Bool) → Sound (cond t (refusedAt TooManyLines (length ls + 2) 0) (refusedAt NoNewline (length ls + 2) (past 0 (x ∷ xs))))
+    go true = refused-sound TooManyLines (length ls + 2) 0 refl
+    go false = refused-sound NoNewline (length ls + 2) (past 0 (x ∷ xs)) refl
 lines-sound w ls row (next ∷ more) i h a =
     full (eqb (length ls) linesMax) refl (λ l k n. lines-sound w (ls ++ (l ∷ [])) next more i k (snoc-accepted w ls l a n))
   where
-    by : (c : LineRead) → lineOf (8 / w) row ≡ c → HasNumber c → length ls < linesMax
+    by : (c : LineRead) → lineOf (8 / w) row ≡ c → Slips (length row) c → length ls < linesMax
         → ((l : Line) → length (ls ++ (l ∷ [])) ≤ linesMax → Names (8 / w) l → Sound (linesOf w (ls ++ (l ∷ [])) next more))
         → Sound (orSlip c (length ls + 2) (λ l. linesOf w (ls ++ (l ∷ [])) next more))
-    by (Slip k) e s lt go = refused-sound k (length ls + 2) s
+    by (Slip k c) e s lt go = refused-sound k (length ls + 2) c (s .some)
     by (Read l) e s lt go = go l (rw length-append (omega arith)) (line-names (8 / w) row l e)
 
     full : (t : Bool) → eqb (length ls) linesMax ≡ t → ((l : Line) → length (ls ++ (l ∷ [])) ≤ linesMax → Names (8 / w) l → Sound (linesOf w (ls ++ (l ∷ [])) next more))
-        → Sound (cond t (refusedAt TooManyLines (length ls + 2)) (orSlip (lineOf (8 / w) row) (length ls + 2) (λ l. linesOf w (ls ++ (l ∷ [])) next more)))
-    full true e go = refused-sound TooManyLines (length ls + 2) refl
+        → Sound (cond t (refusedAt TooManyLines (length ls + 2) 0) (orSlip (lineOf (8 / w) row) (length ls + 2) (λ l. linesOf w (ls ++ (l ∷ [])) next more)))
+    full true e go = refused-sound TooManyLines (length ls + 2) 0 refl
     full false e go =
         let ne = eqb-false (length ls) linesMax e in
-        by (lineOf (8 / w) row) refl (line-number (8 / w) row) (strictly (length ls) linesMax h ne) go
+        by (lineOf (8 / w) row) refl (line-slips (8 / w) row) (strictly (length ls) linesMax h ne) go
       where
         strictly : (m n : ℕ) → m ≤ n → (m ≡ n → ⊥) → m < n
         strictly m n l ne = choose (decLe n m)
@@ -149,11 +122,11 @@ line-width row n = go (sameBytes (before 9 row) (ascii "width")) n
     go false n = absurd (n refl)
 
 first-sound : (row : List ℕ) (more : List (List ℕ)) → Sound (fromFirst row more)
-first-sound row [] = refused-sound WidthLine 1 refl
+first-sound row [] = refused-sound WidthLine 1 0 refl
 first-sound row (next ∷ more) = go (eqb (widthLine row) 0) refl
   where
-    go : (t : Bool) → eqb (widthLine row) 0 ≡ t → Sound (cond t (refusedAt WidthLine 1) (linesOf (widthLine row) [] next more))
-    go true e = refused-sound WidthLine 1 refl
+    go : (t : Bool) → eqb (widthLine row) 0 ≡ t → Sound (cond t (refusedAt WidthLine 1 0) (linesOf (widthLine row) [] next more))
+    go true e = refused-sound WidthLine 1 0 refl
     go false e = lines-sound (widthLine row) [] next more (line-width row (eqb-false (widthLine row) 0 e)) (omega arith) tt
 
 pub read-sound : (text : List ℕ) → isNothing (readOf text .refused) ≡ true → Good (readOf text .recipe)
@@ -162,14 +135,14 @@ read-sound text = first-sound (before 10 text) (after 10 text)
 
 -- ---- and its translation
 
-passes : {R : Type 0} (refuse : Refused → R) (w line : ℕ) (ls : List Line) (go : R) → Accepted w ls → linesPass refuse (8 / w) line ls go ≡ go
+lines-pass : {R : Type 0} (refuse : Refused → R) (w line : ℕ) (ls : List Line) (go : R) → Accepted w ls → linesPass refuse (8 / w) line ls go ≡ go
 unfolding linesPass
-passes refuse w line [] go a = refl
-passes refuse w line (l ∷ ls) go a = rw (names-checked (8 / w) l (a .0)) (passes refuse w (suc line) ls go (a .1))
+lines-pass refuse w line [] go a = refl
+lines-pass refuse w line (l ∷ ls) go a = rw (names-pass (8 / w) l (a .0)) (lines-pass refuse w (suc line) ls go (a .1))
 
 -- a good recipe passes all tests
 pub good-passes : {R : Type 0} (refuse : Refused → R) (r : Recipe) (go : R) → Good r → tested refuse r go ≡ go
-good-passes refuse r go g = rw (g .width, le-leb (r .count) linesMax (g .few)) (passes refuse (r .width) 2 (recipeLines r) go (g .lines))
+good-passes refuse r go g = rw (g .width, le-leb (r .count) linesMax (g .few)) (lines-pass refuse (r .width) 2 (recipeLines r) go (g .lines))
 
 pub good-translates : (r : Recipe) (slots : List Step) → Good r → stepsOf (r .width) (recipeLines r) ≤ length slots
     → translateOf r slots ≡ listed noRefusal (stepsOf (r .width) (recipeLines r)) (over (listingOf (r .width) (recipeLines r)) slots)

@@ -33,7 +33,7 @@ use Rattle.recipes.specs.declared.types.Line.{Line}
 use Rattle.recipes.specs.declared.types.RecipeRun.{RecipeRun}
 use Rattle.text.specs.Text.{ascii, sameBytes, before, after, digitOf}
 use Rattle.recipes.specs.declared.lines.Act.the-variants.{Two}
-use Rattle.recipes.specs.Recipe.{isNothing, lineChecked}
+use Rattle.recipes.specs.Recipe.{isNothing, lineRefusal}
 use Rattle.recipes.specs.Reader.{verbOf, lineOf, linesOf, widthLine, readOf}
 use Rattle.recipes.specs.Listing.{stepOf, risingRest, lineSteps, listingOf}
 use Rattle.recipes.specs.Rule.{numbersOf, registersOf, accountOf, rulesOf}
@@ -61,7 +61,7 @@ refuses-all f meets refuses =
 
 -- 1 is negated to FFFFFFFF
 negated : getD (textRunOf (ascii "width\t1\nneg\t0\n") (loaded 1 0 0 0) .d) 0 0 ≡ 0xffff_ffff
-unfolding textRunOf readOf linesOf lineOf verbOf digitOf widthLine sameBytes before after lineChecked rulesOf registersOf
+unfolding textRunOf readOf linesOf lineOf verbOf digitOf widthLine sameBytes before after lineRefusal rulesOf registersOf
 negated = refl
 
 pub does-nothing : (f : List ℕ → State → RecipeRun) → Meeting f → ((text : List ℕ) (s : State) → f text s .d ≡ s .d) → ⊥

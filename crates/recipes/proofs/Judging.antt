@@ -1,23 +1,26 @@
 -- Laws of the translator's loop over the lines: one for each way that a turn goes. Assumes nothing.
 use Prim.Native.Nat.{ℕ, suc, _+_, _*_, _/_, _≤_, _<_}
+use mathlib.Core.Bool.{true, false, cond}
 use mathlib.Core.List.{List}
 use mathlib.Core.Path.{_≡_, refl, sym, ap, _∙_}
 use native.Mathlib.Omega.{arith}
 use lib.ListN.{length, take, drop, getD, drop-of-length-le}
 use lib.Seq.{drop-cons, getD-take, length-take-le}
 use Rattle.recipes.specs.declared.types.Line.{Line}
-use Rattle.recipes.specs.declared.types.Refusal.{Refusal}
 use Rattle.recipes.specs.declared.types.Refused.{Refused}
-use Rattle.recipes.specs.declared.lines.LineRead.the-variants.{Read, Slip}
-use Rattle.recipes.specs.Recipe.{atLine, noRefusal, unused, lineChecked}
-use Rattle.recipes.specs.Listing.{unlessSlip, linesPass, stepsAt, stepsOf}
+use Rattle.recipes.specs.Recipe.{passes, atLine, noRefusal, unused, lineRefusal}
+use Rattle.recipes.specs.Listing.{linesPass, stepsAt, stepsOf}
 use Rattle.recipes.specs.Making.{translation, noSteps, judgeLines}
 use Rattle.recipes.proofs.Steps.{steps-more}
 
 module _ {R : Type 0} (refuse : Refused → R) (n : ℕ) where
+  -- a line, and what is answered behind it
+  abbrev orElse : Line → (line : ℕ) → (go : R) → R
+  orElse l line go = cond (passes (lineRefusal n l)) go (refuse (atLine (lineRefusal n l) line))
+
   -- the lines from k on
   pass-on : (line : ℕ) (ls : List Line) (k : ℕ) (go : R) → k < length ls
-      → linesPass refuse n line (drop k ls) go ≡ unlessSlip refuse (lineChecked n (getD ls k unused)) line (linesPass refuse n (suc line) (drop (suc k) ls) go)
+      → linesPass refuse n line (drop k ls) go ≡ orElse (getD ls k unused) line (linesPass refuse n (suc line) (drop (suc k) ls) go)
   unfolding linesPass
   pass-on line ls k go h = rw (drop-cons ls k unused h)
 
@@ -40,19 +43,20 @@ passed-none w count lines h = record { there = h; within = omega arith; counted 
 module _ (w count : ℕ) (lines : List Line) (steps k : ℕ) (s : Passed w count lines steps k) where
   -- the next line
   turn : k < count → judgeLines w (take count lines)
-      ≡ unlessSlip noSteps (lineChecked (8 / w) (getD lines k unused)) (k + 2) (linesPass noSteps (8 / w) (suc (k + 2)) (drop (suc k) (take count lines)) (translation noRefusal (stepsOf w (take count lines))))
+      ≡ orElse noSteps (8 / w) (getD lines k unused) (k + 2) (linesPass noSteps (8 / w) (suc (k + 2)) (drop (suc k) (take count lines)) (translation noRefusal (stepsOf w (take count lines))))
   turn h =
       let long : length (take count lines) ≡ count = length-take-le count lines (s .there) in
       s .rest ∙ pass-on noSteps (8 / w) (k + 2) (take count lines) k (translation noRefusal (stepsOf w (take count lines))) (omega arith)
-      ∙ ap (λ (l : Line). unlessSlip noSteps (lineChecked (8 / w) l) (k + 2) (linesPass noSteps (8 / w) (suc (k + 2)) (drop (suc k) (take count lines)) (translation noRefusal (stepsOf w (take count lines)))))
+      ∙ ap (λ (l : Line). orElse noSteps (8 / w) l (k + 2) (linesPass noSteps (8 / w) (suc (k + 2)) (drop (suc k) (take count lines)) (translation noRefusal (stepsOf w (take count lines)))))
       (getD-take count lines k unused h)
 
-  pub passed-slip : (r : Refusal) → k < count → lineChecked (8 / w) (getD lines k unused) ≡ Slip r → noSteps (atLine r (k + 2)) ≡ judgeLines w (take count lines)
-  passed-slip r h e = sym (turn h ∙ rw e)
+  pub passed-slip : k < count → passes (lineRefusal (8 / w) (getD lines k unused)) ≡ false
+      → noSteps (atLine (lineRefusal (8 / w) (getD lines k unused)) (k + 2)) ≡ judgeLines w (take count lines)
+  passed-slip h e = sym (turn h ∙ rw e)
 
-  pub passed-more : (m : Line) (more : ℕ) → w ≤ 4 → k < count → lineChecked (8 / w) (getD lines k unused) ≡ Read m → more ≡ stepsAt (getD lines k unused .verb) * w → more ≤ 8
+  pub passed-more : (more : ℕ) → w ≤ 4 → k < count → passes (lineRefusal (8 / w) (getD lines k unused)) ≡ true → more ≡ stepsAt (getD lines k unused .verb) * w → more ≤ 8
       → Passed w count lines (steps + more) (k + 1)
-  passed-more m more small h e is le =
+  passed-more more small h e is le =
       let a : k + 1 ≡ suc k = omega arith in
       let b : suc (k + 2) ≡ k + 1 + 2 = omega arith in
       let c = s .counted in

@@ -5,6 +5,7 @@ mod LineByLine
 mod Places
 mod Judging
 mod Laying
+pub mod Columns
 pub mod Agreeing
 pub mod Cut
 pub mod Legal

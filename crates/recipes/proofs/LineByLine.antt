@@ -10,25 +10,25 @@ use lib.ListN.{length, set, length-append}
 use lib.Seq.{set-append-seam}
 use borrow.Author.Tests.{eq-eqb, ne-eqb}
 use Rattle.text.specs.Text.{before, after, parts}
-use Rattle.recipes.specs.Reader.{padded, accepted, refusedAt, orSlip, lineOf, linesOf}
+use Rattle.recipes.specs.Reader.{padded, past, accepted, refusedAt, orSlip, lineOf, linesOf}
 use Rattle.recipes.specs.declared.types.Line.{Line}
-use Rattle.recipes.specs.declared.types.Refusal.the-variants.{Syntax, TooManyLines}
+use Rattle.recipes.specs.declared.types.Refusal.the-variants.{NoNewline, TooManyLines}
 use Rattle.recipes.specs.Recipe.{linesMax}
 
 module _ (w : ℕ) (ls : List Line) where
   -- a line has begun behind `linesMax`
-  pub lines-many : (xs : List ℕ) → 0 < length xs → length ls ≡ linesMax → linesOf w ls (before 10 xs) (after 10 xs) ≡ refusedAt TooManyLines (length ls + 2)
+  pub lines-many : (xs : List ℕ) → 0 < length xs → length ls ≡ linesMax → linesOf w ls (before 10 xs) (after 10 xs) ≡ refusedAt TooManyLines (length ls + 2) 0
   unfolding linesOf before after
   lines-many [] h e = absurd (not-suc-le-zero h)
   lines-many (x ∷ xs) h e = go (eqb x 10) (after 10 xs)
     where
-      go : (t : Bool) (more : List (List ℕ)) → linesOf w ls (cond t [] (x ∷ before 10 xs)) (cond t (parts 10 xs) more) ≡ refusedAt TooManyLines (length ls + 2)
+      go : (t : Bool) (more : List (List ℕ)) → linesOf w ls (cond t [] (x ∷ before 10 xs)) (cond t (parts 10 xs) more) ≡ refusedAt TooManyLines (length ls + 2) 0
       go true more = rw (eq-eqb (length ls) linesMax e)
       go false [] = rw (eq-eqb (length ls) linesMax e)
       go false (next ∷ more) = rw (eq-eqb (length ls) linesMax e)
 
   -- the text ends in a line
-  pub lines-cut : (xs : List ℕ) → 0 < length xs → length ls < linesMax → linesOf w ls xs [] ≡ refusedAt Syntax (length ls + 2)
+  pub lines-cut : (xs : List ℕ) → 0 < length xs → length ls < linesMax → linesOf w ls xs [] ≡ refusedAt NoNewline (length ls + 2) (past 0 xs)
   unfolding linesOf
   lines-cut [] h l = absurd (not-suc-le-zero h)
   lines-cut (x ∷ xs) h l = rw (ne-eqb (length ls) linesMax (λ e. omega arith))

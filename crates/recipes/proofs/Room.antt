@@ -100,12 +100,13 @@ listing-short w ks =
     let d = marked-short 9 (clocksOf ks) in
     rw (length-append, length-append, length-append, length-append, length-append, length-append, length-append) (omega arith)
 
-refusal-short : (k : Refused) → length (refusalText k) ≤ 50
+refusal-short : (k : Refused) → length (refusalText k) ≤ 71
 unfolding refusalText
 refusal-short k =
     let a = marked-short 9 (numberOf (k .refusal)) in
     let b = marked-short 9 (k .line) in
-    rw (length-append, length-append, length-append) (omega arith)
+    let c = marked-short 9 (k .column) in
+    rw (length-append, length-append, length-append, length-append) (omega arith)
 
 printed-short : (r : Recipe) → length (printedOf r) ≤ printMax
 unfolding printedOf

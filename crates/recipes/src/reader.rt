@@ -107,16 +107,17 @@ fn read_two(verb: Verb, at: usize, fields: &[u8]) -> LineRead
         return LineRead::Slip(Refusal::WrongFields, behind);
     }
     let second = &fields[tab + 1..];
+    let next = behind + 1;
     let end = first(second, TAB);
     if end < second.len() {
-        let extra = behind + 1 + end + 1;
+        let extra = next + end + 1;
         return LineRead::Slip(Refusal::WrongFields, extra);
     }
     let Digit::Is(a) = digit_of(&fields[..tab]) else {
         return LineRead::Slip(Refusal::NotADigit, column);
     };
     let Digit::Is(b) = digit_of(second) else {
-        return LineRead::Slip(Refusal::NotADigit, behind + 1);
+        return LineRead::Slip(Refusal::NotADigit, next);
     };
     LineRead::Read(Line { verb, a, b })
 }
@@ -230,7 +231,8 @@ fn read_lines(width: u8, text: &[u8]) -> Reading
         }
         let end = first(left, NEWLINE);
         if left.len() <= end {
-            return refused_at(Refusal::NoNewline, count + 2, end + 1);
+            let column = end + 1;
+            return refused_at(Refusal::NoNewline, count + 2, column);
         }
         match read_line(numbers, &left[..end]) {
             LineRead::Slip(refusal, column) => {

@@ -141,7 +141,7 @@ field-is zs p = (p .0, ((ap (λ (v : Val). v ∷ []) (sym (field-val zs)) ∙ p 
 
 -- the bytes that stand before it in the listing, and its cell within the listing's
 abbrev ahead : ℕ
-ahead = 24
+ahead = 32
 
 field-at : fieldOf L′.mir 2 ≡ just (array, ahead)
 field-at = refl

@@ -3,16 +3,16 @@ use mathlib.Core.Path.{_≡_}
 use mathlib.Core.Bool.{true, false, _&&_}
 use lib.Dec.{eqb}
 use borrow.Author.Needs.{needs}
-use Rattle.recipes.specs.Recipe.{isCopy, target, lineChecked}
+use Rattle.recipes.specs.Recipe.{isCopy, target, lineRefusal}
 use Rattle.recipes.proofs.lines.check_line.Statement.{statement}
 use Rattle.recipes.proofs.lines.check_line.Tie as tie
 
 returns : tie.Need-returns
-unfolding lineChecked
+unfolding lineRefusal
 returns c = let t = c .before .before in rw (rw (t .goal .ensures, t .before .way-of .ensures) at (c .if1 .taken))
 
 returns-2 : tie.Need-returns-2
-unfolding lineChecked
+unfolding lineRefusal
 returns-2 c =
     let i = c .before .before .before in
     let t = i .before .before in
@@ -21,7 +21,7 @@ returns-2 c =
     rw (rw (t .goal .ensures, t .before .way-of .ensures) at (i .if1 .left), onto)
 
 returns-3 : tie.Need-returns-3
-unfolding lineChecked
+unfolding lineRefusal
 returns-3 c =
     let i = c .before .before .before in
     let t = i .before .before in

@@ -14,15 +14,16 @@ use Rattle.step.specs.Run.{arraySlots}
 returns : tie.Need-returns
 unfolding listingText
 returns c =
-    let k = c .before .before .before .before .before .before .before .before .before .before .before .before .before .before .before .before .before .before .before .before .before .before in
+    let k = c .before .before .before .before .before .before .before .before .before .before .before .before .before .before .before .before .before .before .before .before .before .before .before .before .before .before in
     let a = k .before .before .before .args in
     let long : length (a .steps) ≡ arraySlots = search mapped in
     let e = c .before .before in
     let n = e .before .before .before .before in
     let w = n .before .before .before .before in
     let s = w .before .before .before .before .before in
-    let h = s .before .before .before .before in
-    let end = then _ _ _ _ (s .put-steps .ensures) (then _ _ _ _ (w .put-bytes .ensures) (then _ _ _ _ (n .put-number .ensures) (e .put-byte .ensures))) in
+    let l = s .before .before .before .before in
+    let h = l .before .before .before .before in
+    let end = then _ _ _ _ (l .put-byte .ensures) (then _ _ _ _ (s .put-steps .ensures) (then _ _ _ _ (w .put-bytes .ensures) (then _ _ _ _ (n .put-number .ensures) (e .put-byte2 .ensures)))) in
     rw (← k .clocks .ensures, sym (k .before .lesser .ensures ∙ ap (min (a .count)) (sym long) ∙ sym (length-take (a .count) (a .steps))))
     (simp append-assoc at (then _ _ _ _ (h .put-head .ensures) end))
 
@@ -31,4 +32,4 @@ print-spec =
     tie.close
     (tie.spec
     (search needs) (search needs) (search needs) (search needs) (search needs) (search needs) (search needs) (search needs) (search needs)
-    (search needs) returns)
+    (search needs) (search needs) returns)

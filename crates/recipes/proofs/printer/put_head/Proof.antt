@@ -6,11 +6,10 @@ use Rattle.recipes.proofs.printer.put_head.Tie as tie
 
 returns : tie.Need-returns
 returns c =
-    let p = c .before .before in
-    let n = p .before .before .before .before in
+    let n = c .before .before in
     let m = n .before .before .before .before in
     let w = m .before .before .before .before in
-    then _ _ _ _ (w .put-bytes .ensures) (then _ _ _ _ (m .put-number .ensures) (then _ _ _ _ (n .put-number2 .ensures) (p .put-byte .ensures)))
+    then _ _ _ _ (w .put-bytes .ensures) (then _ _ _ _ (m .put-number .ensures) (n .put-number2 .ensures))
 
 pub put-head-spec : {M : Type 1} → statement M
-put-head-spec = tie.close (tie.spec (search needs) (search needs) (search needs) (search needs) (search needs) returns)
+put-head-spec = tie.close (tie.spec (search needs) (search needs) (search needs) (search needs) returns)

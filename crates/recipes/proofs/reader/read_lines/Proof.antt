@@ -1,7 +1,7 @@
 -- `recipes::reader::read_lines` meets its contract: a turn of the loop reads one line, by `proofs/LineByLine.antt`.
 -- Assumes nothing.
 use Prim.Native.Nat.{ℕ, _+_, _≤_, _<_}
-use mathlib.Core.Path.{_≡_, refl, sym, _∙_}
+use mathlib.Core.Path.{_≡_, refl, sym, ap, _∙_}
 use mathlib.Core.List.{List, [], _∷_, _++_}
 use native.Mathlib.Omega.{arith}
 use lib.ListN.{length, length-append}
@@ -11,6 +11,7 @@ use Rattle.recipes.specs.Reader.{padded, orSlip, linesOf}
 use Rattle.text.specs.Text.{before, after}
 use Rattle.recipes.specs.Recipe.{linesMax}
 use Rattle.text.proofs.Texts.{from, first-by}
+use Rattle.recipes.proofs.Columns.{past-first}
 use Rattle.recipes.proofs.LineByLine.{lines-many, lines-cut, lines-next, lines-done, padded-more}
 use Rattle.recipes.proofs.reader.read_lines.Statement.{statement}
 use Rattle.recipes.proofs.reader.read_lines.Tie as tie
@@ -62,6 +63,9 @@ slice-aggregate-read-line c =
     let counted = f .counted in
     search needs
 
+add-column : tie.Need-add-column Inv-loop μ-loop
+add-column c = let within = first-by (c .before .first .ensures) .within in search needs
+
 returns : tie.Need-returns Inv-loop μ-loop
 returns c =
     let s = c .before .before .before .loop .inv in
@@ -73,7 +77,9 @@ returns-2 c =
     let f = c .before .before in
     let s = f .before .before .before .loop .inv in
     let h = c .before .if2 .taken in
-    rw (s .rest, first-by (f .first .ensures) .none h, first-by (f .first .ensures) .whole h, lines-cut _ _ _ (f .before .before .loop-test .taken) (room (f .before)), ← s .many) (c .refused-at2 .ensures)
+    let whole = first-by (f .first .ensures) .whole h in
+    let e : f .first .result ≡ length (f .before .before .before .loop .left .now) = f .first .ensures ∙ ap length whole in
+    rw (s .rest, first-by (f .first .ensures) .none h, whole, lines-cut _ _ _ (f .before .before .loop-test .taken) (room (f .before)), ← s .many, past-first, ← e) (c .refused-at2 .ensures)
 
 returns-3 : tie.Need-returns-3 Inv-loop μ-loop
 returns-3 c = let k = c .before .before in rw (turn (k .before .before), k .refusal .given .1) (c .refused-at3 .ensures)
@@ -102,6 +108,6 @@ pub read-lines-spec : {M : Type 1} → statement M
 read-lines-spec =
     tie.close
     (tie.spec
-    Inv-loop μ-loop (search needs) (search needs) loop-holds (search needs) (search needs) returns (search needs) (search needs) (search needs)
-    returns-2 slice-aggregate-read-line (search needs) (search needs) (search needs) (search needs) returns-3 (search needs) (search needs) (search needs)
+    Inv-loop μ-loop (search needs) (search needs) loop-holds (search needs) (search needs) returns (search needs) add-column (search needs)
+    (search needs) returns-2 slice-aggregate-read-line (search needs) (search needs) (search needs) (search needs) returns-3 (search needs) (search needs) (search needs)
     (search needs) (search needs) (search needs) (search needs) (search needs) (search needs) loop-again (search needs) (search needs) returns-4)

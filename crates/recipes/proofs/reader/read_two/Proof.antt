@@ -15,11 +15,14 @@ use Rattle.recipes.proofs.reader.read_two.Tie as tie
 two : (c : tie.Else2)
     → let p = c .before .before .before .before in
     let a = p .before .before .args in
-    twoFields (a .verb) (parts 9 (a .fields .now))
-    ≡ withTwo (a .verb) (digitOf (take (p .first .result) (a .fields .now))) (digitOf (from (p .first .result + 1) (a .fields .now)))
+    twoFields (a .verb) (a .at) (parts 9 (a .fields .now))
+    ≡ withTwo (a .verb) (a .at + 1) (a .at + 1 + p .first .result + 1) (digitOf (take (p .first .result) (a .fields .now))) (digitOf (from (p .first .result + 1) (a .fields .now)))
 two c =
     let d = c .before .before .before in
-    rw (first-by (d .before .first .ensures) .some (d .if1 .left), first-by (c .before .first2 .ensures) .none (c .if2 .left), first-by (c .before .first2 .ensures) .whole (c .if2 .left), first-by (d .before .first .ensures) .front)
+    rw (first-by (d .before .first .ensures) .some (d .if1 .left), first-by (c .before .first2 .ensures) .none (c .if2 .left), first-by (c .before .first2 .ensures) .whole (c .if2 .left), ← d .before .first .ensures, first-by (d .before .first .ensures) .front)
+
+add-behind : tie.Need-add-behind
+add-behind c = let within = first-by (c .first .ensures) .within in search needs
 
 slice-aggregate-digit-of : tie.Need-slice-aggregate-digit-of
 slice-aggregate-digit-of c =
@@ -29,10 +32,12 @@ slice-aggregate-digit-of c =
     search needs
 
 returns : tie.Need-returns
-returns c = rw (first-by (c .before .first .ensures) .none (c .if1 .taken))
+returns c = let f = c .before .first .ensures in rw (first-by f .none (c .if1 .taken), ← f)
 
 returns-2 : tie.Need-returns-2
-returns-2 c = let d = c .before .before .before in rw (first-by (d .before .first .ensures) .some (d .if1 .left), first-by (c .before .first2 .ensures) .some (c .if2 .taken))
+returns-2 c =
+    let d = c .before .before .before in
+    rw (first-by (d .before .first .ensures) .some (d .if1 .left), first-by (c .before .first2 .ensures) .some (c .if2 .taken), ← d .before .first .ensures, ← c .before .first2 .ensures)
 
 returns-3 : tie.Need-returns-3
 returns-3 c = let d = c .before .before in rw (two (d .before .before), ← d .digit-of .ensures, c .enum-told .given .1)
@@ -53,5 +58,6 @@ pub read-two-spec : {M : Type 1} → statement M
 read-two-spec =
     tie.close
     (tie.spec
-    (search needs) returns (search needs) (search needs) (search needs) (search needs) (search needs) returns-2 slice-aggregate-digit-of (search needs)
-    (search needs) (search needs) returns-3 (search needs) (search needs) (search needs) returns-4 returns-5)
+    (search needs) (search needs) add-behind returns (search needs) (search needs) (search needs) (search needs) (search needs) (search needs)
+    (search needs) (search needs) returns-2 slice-aggregate-digit-of (search needs) (search needs) (search needs) returns-3 (search needs) (search needs)
+    (search needs) returns-4 returns-5)

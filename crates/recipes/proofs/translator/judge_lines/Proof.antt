@@ -1,14 +1,16 @@
 -- `recipes::translator::judge_lines` meets its contract: a turn of the loop passes or refuses one line, by the laws of Judging. Assumes nothing.
 use Prim.Native.Nat.{_-_, _≤_}
+use mathlib.Core.Bool.{true, false}
 use mathlib.Core.Path.{_≡_, sym, _∙_}
 use native.Mathlib.Omega.{arith}
 use lib.ListN.{length}
 use borrow.Author.Needs.{needs}
+use borrow.Author.Tests.{not-true, not-false}
 use Rattle.recipes.proofs.Steps.{mapped}
 use Rattle.recipes.proofs.Judging.{Passed, passed-none, passed-slip, passed-more, passed-all}
 use Rattle.recipes.proofs.translator.judge_lines.Statement.{statement}
 use Rattle.recipes.proofs.translator.judge_lines.Tie as tie
-use Rattle.recipes.specs.Recipe.{linesMax}
+use Rattle.recipes.specs.Recipe.{linesMax, passes}
 
 abbrev Inv-loop : tie.InvT-loop
 Inv-loop width count lines numbers steps₀ k₀ steps k = (k ≤ linesMax) × Passed width count lines steps k
@@ -24,11 +26,13 @@ loop-holds c =
 
 returns : tie.Need-returns Inv-loop μ-loop
 returns c =
-    let k = c .before .before .before in
-    let e = k .before .before in
+    let p = c .before .before .before in
+    let e = p .before in
     let t = e .before .before in
     let l = t .before .loop in
-    rw (c .before .at-line .ensures) at (c .translation .ensures) ∙ passed-slip _ _ _ _ _ (l .inv .1) _ (t .loop-test .taken) (sym (e .check-line .ensures) ∙ k .refusal .given .1)
+    let is : passes (e .check-line .result) ≡ false = sym (p .passes .ensures) ∙ not-true (p .passes .result) (c .before .before .if1 .taken) in
+    rw (c .before .at-line .ensures, e .check-line .ensures) at (c .translation .ensures)
+    ∙ passed-slip _ _ _ _ _ (l .inv .1) (t .loop-test .taken) (rw (e .check-line .ensures) at is)
 
 add-steps : tie.Need-add-steps Inv-loop μ-loop
 add-steps c =
@@ -39,12 +43,14 @@ add-steps c =
 
 loop-again : tie.Need-loop-again Inv-loop μ-loop
 loop-again c =
-    let e = c .before .before .before .before in
+    let p = c .before .before .before in
+    let e = p .before in
     let t = e .before .before in
     let l = t .before .loop in
-    let small = t .before .before .pre .1 .0 in (
+    let small = t .before .before .pre .1 .0 in
+    let is : passes (e .check-line .result) ≡ true = sym (p .passes .ensures) ∙ not-false (p .passes .result) (c .before .before .if1 .left) in (
       search needs,
-      passed-more _ _ _ _ _ (l .inv .1) _ _ small (t .loop-test .taken) (sym (e .check-line .ensures) ∙ c .before .before .enum-told .given .1) (rw (c .before .way-of .ensures) at (c .steps-of .ensures .0)) (omega (arith, c .steps-of .ensures .1, small)),
+      passed-more _ _ _ _ _ (l .inv .1) _ small (t .loop-test .taken) (rw (e .check-line .ensures) at is) (rw (c .before .way-of .ensures) at (c .steps-of .ensures .0)) (omega (arith, c .steps-of .ensures .1, small)),
     )
 
 returns-2 : tie.Need-returns-2 Inv-loop μ-loop
@@ -55,4 +61,4 @@ judge-lines-spec =
     tie.close
     (tie.spec
     Inv-loop μ-loop (search needs) loop-holds (search needs) (search needs) (search needs) (search needs) (search needs) (search needs) (search needs) returns
-    (search needs) (search needs) (search needs) add-steps (search needs) (search needs) loop-again (search needs) (search needs) returns-2)
+    (search needs) (search needs) add-steps (search needs) (search needs) loop-again (search needs) (search needs) returns-2)
