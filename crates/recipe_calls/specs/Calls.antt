@@ -42,10 +42,10 @@ rowLeft row told = record { row = row; told = told }
 abbrev pub stateLeft : (d a : List ℕ) → (flags : ℕ) → (told : List ℕ) → StateLeft
 stateLeft d a flags told = record { d = d; a = a; flags = flags; told = told }
 
--- ---- recipe_translate: the listing; refusal number, text line, number of steps
+-- ---- recipe_translate: the listing; refusal number, text line, number of steps, column
 
 abbrev pub translationTold : Refused → (steps : ℕ) → List ℕ
-translationTold k steps = numberOf (k .refusal) ∷ k .line ∷ steps ∷ 0 ∷ 0 ∷ 0 ∷ 0 ∷ 0 ∷ []
+translationTold k steps = numberOf (k .refusal) ∷ k .line ∷ steps ∷ k .column ∷ 0 ∷ 0 ∷ 0 ∷ 0 ∷ []
 
 -- a text translated into a row of slots; a text that is refused has no steps
 abbrev pub textListed : (slots : List Step) → Reading → Listing
@@ -70,7 +70,7 @@ ranTold r = stateLeft (r .state .d) (r .state .a) (ccrOf (r .state .flags)) (end
 abbrev pub runWords : (listing d a : List ℕ) → (flags start budget : ℕ) → StateLeft
 runWords listing d a flags start budget = ranTold (runOf performOf (firstOf listing) (stateOf d a flags) start budget)
 
--- ---- recipe_run: the registers and flags; refusal number, text line, a mask of the flags that are promised, steps, clocks
+-- ---- recipe_run: the registers and flags; refusal number, text line, a mask of the flags that are promised, steps, clocks, column
 
 -- all five, or X alone (16)
 abbrev pub promisedOf : Codes → ℕ
@@ -83,7 +83,9 @@ ccrAfter x Open = digit x * 16
 ccrAfter x (Known f) = ccrOf f
 
 abbrev pub recipeTold : RecipeRun → StateLeft
-recipeTold r = stateLeft (r .d) (r .a) (ccrAfter (r .x) (r .codes)) (numberOf (r .refused .refusal) ∷ r .refused .line ∷ promisedOf (r .codes) ∷ r .steps ∷ r .clocks ∷ 0 ∷ 0 ∷ 0 ∷ [])
+recipeTold r =
+    let k = r .refused in
+    stateLeft (r .d) (r .a) (ccrAfter (r .x) (r .codes)) (numberOf (k .refusal) ∷ k .line ∷ promisedOf (r .codes) ∷ r .steps ∷ r .clocks ∷ k .column ∷ 0 ∷ 0 ∷ [])
 
 abbrev pub recipeRunWords : (text d a : List ℕ) → (flags : ℕ) → StateLeft
 recipeRunWords text d a flags = recipeTold (textRunOf text (stateOf d a flags))

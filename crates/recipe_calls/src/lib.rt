@@ -43,10 +43,12 @@ fn translation_told(refused: Refused, steps: usize) -> [u64; TOLD]
     let refusal = refused.refusal;
     let number = number(refusal) as u64;
     let line = refused.line as u64;
-    [number, line, steps as u64, 0, 0, 0, 0, 0]
+    let column = refused.column as u64;
+    [number, line, steps as u64, column, 0, 0, 0, 0]
 }
 
-// Reads a recipe text and translates it into a listing. `told` gets the refusal number, its text line and the number of steps.
+// Reads a recipe text and translates it into a listing. `told` gets the refusal number, its text line, the number of steps and
+// the refusal's column.
 pub fn recipe_translate(text: &[u8], listing: &mut [u64], told: &mut [u64; TOLD])
     ensures { λ _. ⌜ rowLeft (now (listing .exit)) (now (told .exit)) ≡ translateWords (now (text .entry)) (now (listing .entry)) ⌝ }
 {
@@ -157,7 +159,7 @@ fn ccr_after(x: bool, codes: Codes) -> u8
 }
 
 // Reads a recipe text and runs it on a register set. `told` gets the refusal number, its text line, a mask of the flags
-// that are promised, the steps and the sum of their figures. A flag that is not promised is left 0.
+// that are promised, the steps, the sum of their figures and the refusal's column. A flag that is not promised is left 0.
 pub fn recipe_run(
     text: &[u8],
     d: &mut [u32; 8],
@@ -189,7 +191,7 @@ pub fn recipe_run(
         promised(codes) as u64,
         ran.steps as u64,
         ran.clocks,
-        0,
+        refused.column as u64,
         0,
         0,
     ];

@@ -133,25 +133,29 @@ Told first rows r = (isNothing r ≡ true → r .column ≡ 0) × (isNothing r �
 
 -- one of the first row that is not 14
 here : (first : ℕ) (row : List ℕ) (rows : List (List ℕ)) (k : Refusal) (c : ℕ) → Slipped (length row) k c → Told first (row ∷ rows) (refusedAt k first c .refused)
-here first row rows k c s =
-    (λ e. absurd (false≢true (sym (s .some) ∙ e)),
-    λ e. record {
-      index = 0;
-      line = omega arith;
-      told = s .told;
-      within = omega (arith, s .within);
-      ends = λ is. absurd (false≢true (ap (λ (n : ℕ). ltb n 14) (sym is) ∙ s .whole));
-    })
+here first row rows k c s = (
+  λ e. absurd (false≢true (sym (s .some) ∙ e)),
+  λ e. record {
+    index = 0;
+    line = omega arith;
+    told = s .told;
+    within = omega (arith, s .within);
+    ends = λ is. absurd (false≢true (ap (λ (n : ℕ). ltb n 14) (sym is) ∙ s .whole));
+  },
+)
 
 -- one of a later row
 later : (first next : ℕ) (row : List ℕ) (rows : List (List ℕ)) (r : Refused) → next ≡ suc first → Told next rows r → Told first (row ∷ rows) r
-later first next row rows r is t = (t .0, λ e. let p = t .1 e in record {
-  index = suc (p .index);
-  line = omega (arith, p .line);
-  told = p .told;
-  within = p .within;
-  ends = λ fourteen. (ap suc (p .ends fourteen .0), p .ends fourteen .1);
-})
+later first next row rows r is t = (
+  t .0,
+  λ e. let p = t .1 e in record {
+    index = suc (p .index);
+    line = omega (arith, p .line);
+    told = p .told;
+    within = p .within;
+    ends = λ fourteen. (ap suc (p .ends fourteen .0), p .ends fourteen .1);
+  },
+)
 
 many : (len : ℕ) → Slipped len TooManyLines 0
 many len = record { some = refl; told = refl; within = omega arith; whole = refl }
@@ -166,13 +170,16 @@ lines-told w ls (x ∷ xs) [] = go (eqb (length ls) linesMax)
   where
     go : (t : Bool) → Told (length ls + 2) ((x ∷ xs) ∷ []) (cond t (refusedAt TooManyLines (length ls + 2) 0) (refusedAt NoNewline (length ls + 2) (past 0 (x ∷ xs))) .refused)
     go true = here (length ls + 2) (x ∷ xs) [] TooManyLines 0 (many (length (x ∷ xs)))
-    go false = (λ e. absurd (false≢true e), λ e. record {
-      index = 0;
-      line = omega arith;
-      told = lt-ltb 0 (past 0 (x ∷ xs)) (omega arith);
-      within = omega arith;
-      ends = λ is. (refl, omega arith);
-    })
+    go false = (
+      λ e. absurd (false≢true e),
+      λ e. record {
+        index = 0;
+        line = omega arith;
+        told = lt-ltb 0 (past 0 (x ∷ xs)) (omega arith);
+        within = omega arith;
+        ends = λ is. (refl, omega arith);
+      },
+    )
 lines-told w ls row (next ∷ more) = full (eqb (length ls) linesMax) (λ l. lines-told w (ls ++ (l ∷ [])) next more)
   where
     by : (c : LineRead) → Slips (length row) c → ((l : Line) → Told (length (ls ++ (l ∷ [])) + 2) (next ∷ more) (linesOf w (ls ++ (l ∷ [])) next more .refused))
