@@ -50,9 +50,10 @@ enum gro_operation {
 /*
  * Refusal numbers. Of operations and steps: 1 a step's small number is out of its range (1 to 8, for a bit 0 to 31), or ROXL or ROXR is
  * called with a count above 63; 2 the operation hasn't that size, or there is no such operation, size or step; 3 a step's register
- * number is above 7. A step is tested for 3, 2, 1. Of recipes: 4 the width line; 5 unknown verb, wrong number of fields, a field that
- * isn't one digit, no byte 10; 6 no such number at this width; 7 copy of a number onto itself; 8 more than GRO_LINES lines; 9 too few
- * slots. Of runs: 10 the start place is past the end. Any number but 0 is a refusal: a later library may give others.
+ * number is above 7. A step is tested for 3, 2, 1. Of recipes: 4 the width line; 6 no such number at this width; 7 copy of a number
+ * onto itself; 8 more than GRO_LINES lines; 9 too few slots; 11 unknown verb; 12 too few or too many fields; 13 a field that isn't one
+ * digit; 14 no byte 10. A line is tested for 8, 14, 11, 12, 13, 6, 7. Of runs: 10 the start place is past the end. Any number but 0 is a
+ * refusal: a later library may give others.
  */
 
 /*
@@ -99,12 +100,14 @@ size_t listing_print(uint8_t width, const uint64_t *listing, size_t length, uint
  * copy a b, add a b, sub a b, neg a, not a, halve a, down a, up a. One tab parts the fields, and byte 10 ends each line.
  *
  * Reads a text and translates it into a listing of length slots. told: 0 the refusal number (0: none), 1 its text line, counted from 1
- * (0: none, and of 9), 2 the number of steps. The slots past the steps stay; a refusal leaves all. A sound recipe of more steps than
- * there are slots is refused with 9; GRO_STEPS slots are enough for any.
+ * (0: none, and of 9), 2 the number of steps, 3 the refusal's column: bytes from 1 at the line's start. It is 0 but for 11 to 14: of 11
+ * and 13 the field's first byte, of 12 the first field too many or the early byte 10, of 14 the place past the text. The slots past the
+ * steps stay; a refusal leaves all. A sound recipe of more steps than there are slots is refused with 9; GRO_STEPS slots are enough for
+ * any.
  */
 void recipe_translate(const uint8_t *text, size_t text_length, uint64_t *listing, size_t length, uint64_t told[GRO_TOLD]);
 
-/* What the program recipe prints for a text: the listing, or `refused`, number and line. Answers as listing_print does. */
+/* What the program recipe prints for a text: the listing, or `refused`, number, line and column. Answers as listing_print does. */
 size_t recipe_answer(const uint8_t *text, size_t length, uint8_t *out, size_t room);
 
 /*
@@ -114,6 +117,7 @@ size_t recipe_answer(const uint8_t *text, size_t length, uint8_t *out, size_t ro
  *   2 a mask: which flags are promised (GRO_X alone, or all five). Their values are in *flags
  *   3 the steps
  *   4 the sum of their clock figures
+ *   5 the refusal's column
  * After add, sub and neg, and with no line, all five flags are promised, else X alone; a flag that is not promised is left 0. A refused
  * text leaves d, a and the five flags, and tells all five promised, 0 steps and 0 clocks.
  */

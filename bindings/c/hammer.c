@@ -20,7 +20,7 @@ struct counts {
     uint64_t numbers[NUMBERS], met[NUMBERS];
 };
 
-static struct counts refusals = {"refusals (0 is acceptance)", 11, {0, 1, 2, 3, 4, 5, 6, 7, 8, 9, 10}, {0}};
+static struct counts refusals = {"refusals (0 is acceptance)", 14, {0, 1, 2, 3, 4, 6, 7, 8, 9, 10, 11, 12, 13, 14}, {0}};
 static struct counts ends = {"ends", 4, {GRO_FINISHED, GRO_BUDGET, GRO_TRAPPED, GRO_REFUSED}, {0}};
 static uint64_t seed, differing;
 
@@ -66,7 +66,7 @@ static uint64_t *told_row(void) {
 }
 
 /* After the call: behind the first places, which mean something, all are 0, and the guards as they were. */
-enum { OF_RUN = 6, OF_TRANSLATION = 3, OF_RECIPE = 5 };
+enum { OF_RUN = 6, OF_TRANSLATION = 4, OF_RECIPE = 6 };
 static void is_told(const uint64_t *told, unsigned many) {
     unsigned i, good = 1;
     for (i = many; i < GRO_TOLD; i++) good &= told[i] == 0;
@@ -216,7 +216,7 @@ static size_t printed(const uint8_t *text, const uint64_t *listing, const uint64
     char refused[64];
     size_t many;
     if (told[0] == 0) return listing_print((uint8_t)(text[6] - '0'), listing, (size_t)told[2], out, room);
-    many = (size_t)sprintf(refused, "refused\t%lu\t%lu\n", (unsigned long)told[0], (unsigned long)told[1]);
+    many = (size_t)sprintf(refused, "refused\t%lu\t%lu\t%lu\n", (unsigned long)told[0], (unsigned long)told[1], (unsigned long)told[3]);
     if (many > room) many = room;
     memcpy(out, refused, many);
     return many;
@@ -233,6 +233,7 @@ static void try_answer(const uint8_t *text, size_t length) {
     count(&refusals, told[0]);
     agrees(told[2] <= slots && (told[0] == 0 || told[2] == 0), "the number of steps");
     agrees((told[1] == 0) == (told[0] == 0 || told[0] == 9), "the line of a refusal");
+    agrees((told[3] == 0) == (told[0] < 11), "the column of a refusal");
     for (i = 0; i < slots; i++)
         if (i < told[2]) agrees(listing[i] >> 40 == 0, "the reserved bytes of a step");
         else agrees(listing[i] == before[i], "a slot past the steps");
@@ -251,7 +252,7 @@ static void try_run(const uint8_t *text, size_t length) {
     recipe_run(text, length, whole.d, whole.a, whole.flags, told);
     listing_run(listing, (size_t)made[2], stepped.d, stepped.a, stepped.flags, 0, GRO_STEPS, ran);
     is_told(made, OF_TRANSLATION), is_told(told, OF_RECIPE), is_told(ran, OF_RUN);
-    agrees(made[0] == told[0] && made[1] == told[1], "the refusal of a recipe");
+    agrees(made[0] == told[0] && made[1] == told[1] && made[3] == told[5], "the refusal of a recipe");
     agrees(told[3] == ran[4] && told[4] == ran[5], "steps and clocks of a recipe");
     agrees(same_registers(whole, stepped), "the registers after a recipe");
     agrees(*whole.flags == (*stepped.flags & told[2]), "the flags after a recipe");

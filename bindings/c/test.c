@@ -101,10 +101,16 @@ static void test_operations(void) {
 
 /* ---- translating */
 
-/* A text into so many slots: it is refused with a number on a line, or those words are laid. */
-static void translate_one(const char *text, size_t length, size_t slots, uint64_t number, uint64_t line, const uint64_t *words,
-                          size_t many) {
-    const uint64_t should[GRO_TOLD] = {number, line, many};
+/* Where a text is refused, and with which number; all 0 where it isn't. */
+struct refused {
+    uint64_t number, line, column;
+};
+
+static const struct refused none = {0, 0, 0}, no_room = {9, 0, 0};
+
+/* A text into so many slots: it is refused, or those words are laid. */
+static void translate_one(const char *text, size_t length, size_t slots, struct refused at, const uint64_t *words, size_t many) {
+    const uint64_t should[GRO_TOLD] = {at.number, at.line, many, at.column};
     uint64_t *listing = (uint64_t *)row(slots * sizeof *listing), *told = told_row();
     uint8_t *copy = (uint8_t *)copied(text, length);
     recipe_translate(copy, length, listing, slots, told);
@@ -116,9 +122,10 @@ static void translate_one(const char *text, size_t length, size_t slots, uint64_
 }
 
 /* Whatever slots there are. */
-static void refuse_one(const char *text, uint64_t number, uint64_t line) {
-    translate_one(text, strlen(text), 0, number, line, steps, 0);
-    translate_one(text, strlen(text), MOST, number, line, steps, 0);
+static void refuse_one(const char *text, uint64_t number, uint64_t line, uint64_t column) {
+    const struct refused at = {number, line, column};
+    translate_one(text, strlen(text), 0, at, steps, 0);
+    translate_one(text, strlen(text), MOST, at, steps, 0);
 }
 
 /* A recipe of copies at width 4, and its steps, as many as GRO_STEPS where it has GRO_LINES lines. */
@@ -140,25 +147,28 @@ static void test_translating(void) {
     static uint64_t words[GRO_STEPS];
     size_t length, slots;
     for (length = 0; length < sizeof example; length++) {
+        const struct refused width = {4, 1, 0}, second = {14, 2, length - 8 + 1}, third = {14, 3, length - 16 + 1};
         int whole = length == 8 || length == 16 || length == 22;
-        if (whole) translate_one(example, length, MOST, 0, 0, steps, length == 8 ? 0 : length == 16 ? 2 : STEPS);
-        else translate_one(example, length, MOST, length < 8 ? 4 : 5, length < 8 ? 1 : length < 16 ? 2 : 3, steps, 0);
+        if (whole) translate_one(example, length, MOST, none, steps, length == 8 ? 0 : length == 16 ? 2 : STEPS);
+        else translate_one(example, length, MOST, length < 8 ? width : length < 16 ? second : third, steps, 0);
     }
     check(copies(text, words, GRO_LINES) == GRO_STEPS, "a recipe of as many steps as there may be", 0);
     for (slots = 0; slots <= MOST; slots++) {
-        translate_one(example, sizeof example - 1, slots, slots < STEPS ? 9 : 0, 0, steps, slots < STEPS ? 0 : STEPS);
-        translate_one(text, strlen(text), slots, slots < GRO_STEPS ? 9 : 0, 0, words, slots < GRO_STEPS ? 0 : GRO_STEPS);
+        translate_one(example, sizeof example - 1, slots, slots < STEPS ? no_room : none, steps, slots < STEPS ? 0 : STEPS);
+        translate_one(text, strlen(text), slots, slots < GRO_STEPS ? no_room : none, words, slots < GRO_STEPS ? 0 : GRO_STEPS);
     }
     copies(text, words, GRO_LINES + 1);
-    refuse_one(text, 8, GRO_LINES + 2);
+    refuse_one(text, 8, GRO_LINES + 2, 0);
     copies(text, words, GRO_TEXT / 8);
-    refuse_one(text, 8, GRO_LINES + 2);
-    refuse_one("width\t3\nadd\t0\t1\n", 4, 1);
-    refuse_one("width\t12\nadd\t0\t1\n", 4, 1);
-    refuse_one("width\t2\nadd\t0\t1\nswap\t0\n", 5, 3);
-    refuse_one("width\t2\nadd\t0\t1\nup\t10\n", 5, 3);
-    refuse_one("width\t2\nadd\t0\t1\nup\t4\n", 6, 3);
-    refuse_one("width\t2\nadd\t0\t1\ncopy\t3\t3\n", 7, 3);
+    refuse_one(text, 8, GRO_LINES + 2, 0);
+    refuse_one("width\t3\nadd\t0\t1\n", 4, 1, 0);
+    refuse_one("width\t12\nadd\t0\t1\n", 4, 1, 0);
+    refuse_one("width\t2\nadd\t0\t1\nswap\t0\n", 11, 3, 1);
+    refuse_one("width\t2\nadd\t0\t1\nadd\t0\n", 12, 3, 6);
+    refuse_one("width\t2\nadd\t0\t1\nup\t0\t1\n", 12, 3, 6);
+    refuse_one("width\t2\nadd\t0\t1\nadd\t0\t10\n", 13, 3, 7);
+    refuse_one("width\t2\nadd\t0\t1\nup\t4\n", 6, 3, 0);
+    refuse_one("width\t2\nadd\t0\t1\ncopy\t3\t3\n", 7, 3, 0);
 }
 
 /* ---- runs */

@@ -128,13 +128,16 @@ pub struct Refused {
     /// The text line, counted from 1: the width is on line 1, a recipe's first line on line 2. Refusal 9 is of the slots, and
     /// has line 0.
     pub line: usize,
+    /// The column, in bytes from 1 at the line's start, of refusals 11 to 14: the bad field's first byte, the first field too
+    /// many, or the place where the line ends too early. 0 of every other.
+    pub column: usize,
 }
 
 impl Refused {
-    /// A refusal and its line as the library tells them.
-    fn told(number: u64, line: u64) -> Result<(), Refused> {
+    /// A refusal with its line and column as the library tells them.
+    fn told(number: u64, line: u64, column: u64) -> Result<(), Refused> {
         match Refusal::told(number) {
-            Some(refusal) => Err(Refused { refusal, line: line as usize }),
+            Some(refusal) => Err(Refused { refusal, line: line as usize, column: column as usize }),
             None => Ok(()),
         }
     }
@@ -142,9 +145,10 @@ impl Refused {
 
 impl Display for Refused {
     fn fmt(&self, f: &mut Formatter) -> fmt::Result {
-        match self.line {
-            0 => self.refusal.fmt(f),
-            line => write!(f, "line {line}: {}", self.refusal),
+        match (self.line, self.column) {
+            (0, _) => self.refusal.fmt(f),
+            (line, 0) => write!(f, "line {line}: {}", self.refusal),
+            (line, column) => write!(f, "line {line}, column {column}: {}", self.refusal),
         }
     }
 }
@@ -153,8 +157,8 @@ impl Error for Refused {}
 
 /// Translates into words: how many steps.
 fn translate_words(text: &[u8], words: &mut [u64]) -> Result<usize, Refused> {
-    let [number, line, steps, ..] = sys::recipe_translate(text, words);
-    Refused::told(number, line)?;
+    let [number, line, steps, column, ..] = sys::recipe_translate(text, words);
+    Refused::told(number, line, column)?;
     Ok(steps as usize)
 }
 
@@ -167,8 +171,8 @@ fn translate_words(text: &[u8], words: &mut [u64]) -> Result<usize, Refused> {
 ///
 /// let listing = translate(b"width\t2\nneg\t1\n")?;
 /// assert_eq!(listing.steps()[1].to_string(), "NEGX\tL\t-\tD3");
-/// let refused = translate(b"width\t4\nadd\t0\t2\n").unwrap_err();
-/// assert_eq!((refused.refusal, refused.line), (Refusal::NoSuchNumber, 2));
+/// let refused = translate(b"width\t4\nadd\t0\tx\n").unwrap_err();
+/// assert_eq!((refused.refusal, refused.line, refused.column), (Refusal::NotADigit, 2, 7));
 /// # Ok::<(), gromavelush::Refused>(())
 /// ```
 pub fn translate(text: &[u8]) -> Result<Listing, Refused> {
@@ -227,11 +231,11 @@ pub fn print(width: u8, listing: &Listing) -> String {
     printed(|out| sys::listing_print(width, listing.words(), out))
 }
 
-/// What the program `recipe` prints for a text: the listing, or `refused`, number and line.
+/// What the program `recipe` prints for a text: the listing, or `refused`, number, line and column.
 ///
 /// ```
 /// assert_eq!(gromavelush::answer(b"width\t1\n"), "width\t1\t0\nclocks\t0\n");
-/// assert_eq!(gromavelush::answer(b""), "refused\t4\t1\n");
+/// assert_eq!(gromavelush::answer(b""), "refused\t4\t1\t0\n");
 /// ```
 pub fn answer(text: &[u8]) -> String {
     printed(|out| sys::recipe_answer(text, out))
@@ -266,9 +270,9 @@ pub struct RecipeRun {
 /// # Ok::<(), Box<dyn std::error::Error>>(())
 /// ```
 pub fn run_text(text: &[u8], state: &mut State) -> Result<RecipeRun, Refused> {
-    let [number, line, promised, steps, clocks, ..] =
+    let [number, line, promised, steps, clocks, column, ..] =
         state.lent(|registers| sys::recipe_run(text, registers));
-    Refused::told(number, line)?;
+    Refused::told(number, line, column)?;
     let flags = (promised == 31).then_some(state.flags);
     Ok(RecipeRun { x: state.flags.x, flags, steps: steps as u32, clocks })
 }

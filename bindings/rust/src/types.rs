@@ -101,7 +101,7 @@ pub(crate) fn other_version(what: &str, number: u64) -> ! {
 
 macro_rules! refusals {
     ($($name:ident = $number:literal $why:literal, $to_do:literal;)+) => {
-        /// Why something is refused: document 01's numbers. What is refused changes nothing.
+        /// Why something is refused: the numbers of documents 01 and 02. What is refused changes nothing.
         ///
         /// ```
         /// use gromavelush::{Flags, Refusal, Size, exec_ext};
@@ -142,8 +142,6 @@ refusals! {
         "there is no such register; use 0 to 7";
     WidthLine = 4 "the width line isn't `width`, a tab, and 1, 2 or 4",
         "the width line is wrong; begin with `width`, a tab, and 1, 2 or 4";
-    Syntax = 5 "an unknown verb, a wrong number of fields, a field that isn't one digit, or a line without byte 10",
-        "the line is wrong; write a verb and its numbers, one digit each, one tab between, and end it with byte 10";
     NoSuchNumber = 6 "a digit that names no number at this width",
         "there is no such number; use 0 to 7 at width 1, 0 to 3 at width 2, 0 or 1 at width 4";
     OntoItself = 7 "a number is copied onto itself",
@@ -154,10 +152,18 @@ refusals! {
         "the listing has too few slots; {RECIPE_STEPS} are enough for any recipe";
     StartPastEnd = 10 "a run's start place is past the listing's end",
         "the start place is past the end of the listing; a listing ends at {MOST_STEPS}";
+    UnknownVerb = 11 "an unknown verb",
+        "there is no such verb; use clear, copy, add, sub, neg, not, halve, down or up";
+    WrongFields = 12 "too few or too many fields",
+        "there are too few or too many fields; give copy, add and sub two numbers, any other verb one, each behind one tab";
+    NotADigit = 13 "a field that isn't one digit",
+        "a number is one digit; write nothing else between the tabs";
+    NoNewline = 14 "a line without byte 10",
+        "the line has no end; end each line with byte 10, the last too";
 }
 
 impl Refusal {
-    /// Document 01's number.
+    /// Its number.
     pub fn number(self) -> u8 {
         self as u8
     }

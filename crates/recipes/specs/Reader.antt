@@ -102,16 +102,16 @@ lineOf n row = thenChecked n (fieldsOf (verbOf (before 9 row)) (past 0 (before 9
 
 -- ---- the lines after the width line. Behind the lines ls the next has text line `length ls + 2`
 
+abbrev pub orSlip : LineRead → (line : ℕ) → (Line → Reading) → Reading
+orSlip (Slip k c) line go = refusedAt k line c
+orSlip (Read l) line go = go l
+
 -- what stands behind the last byte 10: nothing, or a line that lacks its byte 10, which is 14 at the place past the text
 abbrev pub endOf : (w : ℕ) → List Line → List ℕ → Reading
 endOf w ls [] = accepted w ls
 endOf w ls (x ∷ xs) =
     cond (eqb (length ls) linesMax) (refusedAt TooManyLines (length ls + 2) 0)
     (refusedAt NoNewline (length ls + 2) (past 0 (x ∷ xs)))
-
-abbrev pub orSlip : LineRead → (line : ℕ) → (Line → Reading) → Reading
-orSlip (Slip k c) line go = refusedAt k line c
-orSlip (Read l) line go = go l
 
 -- ls are the lines read so far; row and more are the rest of the text, parted at byte 10, so that a row with a part behind it is a whole line. On each
 -- line in turn 8, then 14, then those of `lineOf`

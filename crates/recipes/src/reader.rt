@@ -110,8 +110,8 @@ fn read_two(verb: Verb, at: usize, fields: &[u8]) -> LineRead
     let next = behind + 1;
     let end = first(second, TAB);
     if end < second.len() {
-        let extra = next + end + 1;
-        return LineRead::Slip(Refusal::WrongFields, extra);
+        let third = next + end + 1;
+        return LineRead::Slip(Refusal::WrongFields, third);
     }
     let Digit::Is(a) = digit_of(&fields[..tab]) else {
         return LineRead::Slip(Refusal::NotADigit, column);

@@ -15,19 +15,20 @@ fn made_of(recipe: &Recipe) -> safe::Recipe {
     safe::Recipe { width: recipe.width, lines }
 }
 
-/// What is wrong with the line at a place: there are too many, a number has more than one digit, there is no such number, or it is
-/// copied onto itself.
-fn fault(width: u8, at: usize, line: &safe::Line) -> Option<u8> {
+/// What is wrong with the line at a place, and the column: there are too many, a number has more than one digit, there is no such
+/// number, or it is copied onto itself.
+fn fault(width: u8, at: usize, line: &safe::Line) -> Option<(u8, usize)> {
     let numbers = if line.verb.takes_two() { vec![line.a, line.b] } else { vec![line.a] };
-    let any = |limit: u8| numbers.iter().any(|&number| number >= limit);
+    let first = |limit: u8| numbers.iter().position(|&number| number >= limit);
     if at == LINES_MAX {
-        Some(8)
-    } else if any(10) {
-        Some(5)
-    } else if any(8 / width) {
-        Some(6)
+        Some((8, 0))
+    } else if let Some(which) = first(10) {
+        // behind the verb's tab, and behind a number of one digit and its tab
+        Some((13, line.to_string().find('\t').unwrap_or_default() + 2 + 2 * which))
+    } else if first(8 / width).is_some() {
+        Some((6, 0))
     } else if line.verb == safe::Verb::Copy && line.a == line.b {
-        Some(7)
+        Some((7, 0))
     } else {
         None
     }
@@ -36,11 +37,11 @@ fn fault(width: u8, at: usize, line: &safe::Line) -> Option<u8> {
 /// What document 01 says of the text that is printed: the first fault, or the recipe.
 fn wanted(recipe: &Recipe, made: &safe::Recipe) -> Wanted {
     if !WIDTHS.contains(&made.width) {
-        return Err(Refused { number: 4, line: 1 });
+        return Err(Refused { number: 4, line: 1, column: 0 });
     }
     let mut faults =
         made.lines.iter().enumerate().filter_map(|(at, line)| {
-            fault(made.width, at, line).map(|number| Refused { number, line: at + 2 })
+            fault(made.width, at, line).map(|(number, column)| Refused { number, line: at + 2, column })
         });
     faults.next().map_or(Ok(*recipe), Err)
 }

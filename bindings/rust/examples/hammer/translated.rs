@@ -23,7 +23,7 @@ pub fn try_raw(random: &mut Random, text: &[u8], want: &Wanted, tally: &mut Tall
     let want = words(want, length);
     let should = match &want {
         Ok(words) => told_of(&[0, 0, words.len() as u64]),
-        Err(refused) => told_of(&[refused.number.into(), refused.line as u64]),
+        Err(refused) => told_of(&[refused.number.into(), refused.line as u64, 0, refused.column as u64]),
     };
     let mark = random.bits();
     let mut listing = Row::marked(length, mark);
@@ -39,7 +39,7 @@ pub fn try_raw(random: &mut Random, text: &[u8], want: &Wanted, tally: &mut Tall
 }
 
 fn told(refused: safe::Refused) -> Refused {
-    Refused { number: refused.refusal.number(), line: refused.line }
+    Refused { number: refused.refusal.number(), line: refused.line, column: refused.column }
 }
 
 pub fn try_into(random: &mut Random, text: &[u8], want: &Wanted, tally: &mut Tally) {

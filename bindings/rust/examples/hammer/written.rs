@@ -59,7 +59,7 @@ fn ran(recipe: &Wanted, mut state: State) -> ([u64; TOLD], State, u8) {
     let recipe = match recipe {
         Ok(recipe) => recipe,
         Err(refused) => {
-            let told = told_of(&[refused.number.into(), refused.line as u64, 31]);
+            let told = told_of(&[refused.number.into(), refused.line as u64, 31, 0, 0, refused.column as u64]);
             return (told, state, state.flags.ccr());
         }
     };
@@ -92,7 +92,9 @@ fn try_run(random: &mut Random, text: &[u8], recipe: &Wanted, tally: &mut Tally)
             let told = told_of(&[0, 0, all, run.steps.into(), run.clocks]);
             run.x == (flags & 16 != 0) && same && told == should
         }
-        Err(refused) => told_of(&[refused.refusal.number().into(), refused.line as u64, 31]) == should,
+        Err(safe::Refused { refusal, line, column }) => {
+            told_of(&[refusal.number().into(), line as u64, 31, 0, 0, column as u64]) == should
+        }
     };
     tally.called("run_text");
     tally.agrees(agrees && left, || format!("run_text of \"{}\": {got:?}", text.escape_ascii()));

@@ -1,4 +1,4 @@
-//! Every refusal of document 01 is met here, with its line or place, and changes nothing.
+//! Every refusal is met here, with its line and column or its place, and changes nothing.
 
 use gromavelush::*;
 
@@ -16,15 +16,16 @@ const MARK: Step = Step { size: Size::Word, form: Form::Chk(D(200), D(100)) };
 
 /// A text's refusal by the translator, which leaves the slots, as many or few as there are; by what is printed; and by a run
 /// that leaves the state.
-fn refused(text: &[u8], number: u8, line: usize) {
+fn refused(text: &[u8], number: u8, line: usize, column: usize) {
     let refused = translate(text).expect_err("it is refused");
-    assert_eq!((refused.refusal.number(), refused.line), (number, line), "{}", text.escape_ascii());
+    let at = (refused.refusal.number(), refused.line, refused.column);
+    assert_eq!(at, (number, line, column), "{}", text.escape_ascii());
     for length in [0, 1, RECIPE_STEPS] {
         let mut slots = vec![MARK; length];
         assert_eq!(translate_into(text, &mut slots), Err(refused));
         assert_eq!(slots, vec![MARK; length]);
     }
-    assert_eq!(answer(text), format!("refused\t{number}\t{line}\n"));
+    assert_eq!(answer(text), format!("refused\t{number}\t{line}\t{column}\n"));
     let mut state = STATE;
     assert_eq!(run_text(text, &mut state), Err(refused));
     assert_eq!(state, STATE);
@@ -117,7 +118,10 @@ fn texts_are_printed_or_refused() {
         let printed = String::from_utf8(row.printed).expect("printed text");
         assert_eq!(answer(&row.text), printed, "{}", row.name);
         match printed.trim_end().split('\t').collect::<Vec<_>>()[..] {
-            ["refused", number, line] => refused(&row.text, number.parse().unwrap(), line.parse().unwrap()),
+            ["refused", number, line, column] => {
+                let at = (number.parse().unwrap(), line.parse().unwrap(), column.parse().unwrap());
+                refused(&row.text, at.0, at.1, at.2)
+            }
             _ => assert!(translate(&row.text).is_ok(), "{}", row.name),
         }
     }
@@ -135,18 +139,18 @@ fn line(verb: Verb, a: u8, b: u8) -> Line {
 #[test]
 fn number_4_widths_by_hand() {
     for width in (0..=u8::MAX).filter(|width| ![1, 2, 4].contains(width)) {
-        refused(&by_hand(width, &[]), 4, 1);
-        refused(&by_hand(width, &[line(Verb::Copy, 9, 9)]), 4, 1);
+        refused(&by_hand(width, &[]), 4, 1, 0);
+        refused(&by_hand(width, &[line(Verb::Copy, 9, 9)]), 4, 1, 0);
     }
 }
 
 /// A number above 9 isn't one digit.
 #[test]
-fn number_5_numbers_by_hand() {
+fn number_13_numbers_by_hand() {
     for number in 10..=u8::MAX {
-        refused(&by_hand(1, &[line(Verb::Clear, 0, 0), line(Verb::Neg, number, 0)]), 5, 3);
-        refused(&by_hand(1, &[line(Verb::Copy, 1, number)]), 5, 2);
-        refused(&by_hand(4, &[line(Verb::Sub, number, number)]), 5, 2);
+        refused(&by_hand(1, &[line(Verb::Clear, 0, 0), line(Verb::Neg, number, 0)]), 13, 3, 5);
+        refused(&by_hand(1, &[line(Verb::Copy, 1, number)]), 13, 2, 8);
+        refused(&by_hand(4, &[line(Verb::Sub, number, number)]), 13, 2, 5);
     }
 }
 
@@ -155,12 +159,12 @@ fn numbers_6_and_7_by_hand() {
     for width in [1, 2, 4] {
         for number in 8 / width..=9 {
             for verb in Verb::ALL {
-                refused(&by_hand(width, &[line(Verb::Up, 0, 0), line(verb, number, number)]), 6, 3);
+                refused(&by_hand(width, &[line(Verb::Up, 0, 0), line(verb, number, number)]), 6, 3, 0);
             }
-            refused(&by_hand(width, &[line(Verb::Add, 0, number)]), 6, 2);
+            refused(&by_hand(width, &[line(Verb::Add, 0, number)]), 6, 2, 0);
         }
         for number in 0..8 / width {
-            refused(&by_hand(width, &[line(Verb::Copy, number, number)]), 7, 2);
+            refused(&by_hand(width, &[line(Verb::Copy, number, number)]), 7, 2, 0);
         }
     }
     let kept = by_hand(1, &[line(Verb::Neg, 7, 255)]);
@@ -172,12 +176,12 @@ fn numbers_6_and_7_by_hand() {
 fn number_8_too_many_lines() {
     assert_eq!(translate(&copies(1, MOST_LINES)).map(|listing| listing.steps().len()), Ok(2 * MOST_LINES));
     for count in [MOST_LINES + 1, MOST_LINES + 2, 0x100, 5000] {
-        refused(&copies(1, count), 8, MOST_LINES + 2);
+        refused(&copies(1, count), 8, MOST_LINES + 2, 0);
         let mut lines = vec![line(Verb::Not, 7, 0); MOST_LINES];
         lines.resize(count, line(Verb::Copy, 9, 99));
-        refused(&by_hand(1, &lines), 8, MOST_LINES + 2);
+        refused(&by_hand(1, &lines), 8, MOST_LINES + 2, 0);
         lines[MOST_LINES - 1] = line(Verb::Copy, 3, 3);
-        refused(&by_hand(1, &lines), 7, MOST_LINES + 1);
+        refused(&by_hand(1, &lines), 7, MOST_LINES + 1, 0);
     }
 }
 
@@ -187,7 +191,7 @@ fn number_9_slots_and_slots_past_the_listing() {
     for length in [0, 1, RECIPE_STEPS - 1] {
         let mut slots = vec![MARK; length];
         let refused = translate_into(&text, &mut slots);
-        assert_eq!(refused, Err(Refused { refusal: Refusal::NoSpace, line: 0 }));
+        assert_eq!(refused, Err(Refused { refusal: Refusal::NoSpace, line: 0, column: 0 }));
         assert_eq!(slots, vec![MARK; length]);
     }
     for length in [RECIPE_STEPS, RECIPE_STEPS + 1, RECIPE_STEPS + 44] {
