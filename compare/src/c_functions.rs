@@ -31,7 +31,7 @@ pub fn recipe_answer(text: &[u8], out: &mut [u8]) -> usize {
     unsafe { recipe_archive_recipe_answer(&Slice::lent(text), &Slice::lent_to_write(out)) }
 }
 
-/// The refusal's number, its line and the number of steps; then zeros.
+/// The refusal's number, its line, the number of steps and the refusal's column; then zeros.
 pub fn recipe_translate(text: &[u8], listing: &mut [u64]) -> Told {
     let mut told = [u64::MAX; TOLD];
     // SAFETY: as above.

@@ -30,6 +30,7 @@ pub mod ported_recipes;
 pub mod recipes;
 pub mod refusals;
 pub mod shim;
+pub mod slips;
 pub mod steps;
 pub mod texts;
 pub mod timing;

@@ -1,7 +1,7 @@
 //! What of the port gives or takes a recipe, which no C function does. It is called as the kit compiles it, as in `ported`.
 //! The layouts are those of `steps` and `recipes`.
 
-use crate::recipes::{Recipe, Refused, SLOTS};
+use crate::recipes::{Recipe, Refused, SLOTS, Told};
 use crate::steps::{Slice, Step};
 use std::hint::black_box;
 use std::mem::MaybeUninit;
@@ -10,13 +10,14 @@ use std::mem::MaybeUninit;
 type Refusal = u8;
 
 /// Their numbers; 0 is none.
-const NUMBERS: [u8; 7] = [0, 4, 5, 6, 7, 8, 9];
+const NUMBERS: [u8; 10] = [0, 4, 6, 7, 8, 9, 11, 12, 13, 14];
 
 /// recipes::types::Refused
 #[repr(C)]
 struct RefusedAt {
     refusal: Refusal,
     line: usize,
+    column: usize,
 }
 
 /// recipes::types::Reading
@@ -47,15 +48,14 @@ unsafe extern "C" {
 }
 
 impl RefusedAt {
-    fn number(&self) -> u8 {
-        NUMBERS[usize::from(self.refusal)]
+    fn refused(&self) -> Refused {
+        Refused { number: NUMBERS[usize::from(self.refusal)], line: self.line, column: self.column }
     }
 }
 
 impl Translated {
-    /// As the C function recipe_translate tells it: the refusal's number, its line and the number of steps.
-    fn told(&self) -> [usize; 3] {
-        [self.refused.number().into(), self.refused.line, self.count]
+    fn told(&self) -> Told {
+        self.refused.refused().told(self.count)
     }
 }
 
@@ -70,7 +70,7 @@ fn answered<T>(ask: impl FnOnce(*mut T)) -> T {
 pub fn read(text: &[u8]) -> (Refused, Recipe) {
     // SAFETY: the pointers are to live values, and the port keeps none of them.
     let reading: Reading = answered(|answer| unsafe { recipes_reader_read(answer, &Slice::lent(text)) });
-    (Refused { number: reading.refused.number(), line: reading.refused.line }, reading.recipe)
+    (reading.refused.refused(), reading.recipe)
 }
 
 /// For a measurement of `translate_array`: the steps. The listing stays where the port wrote it.
@@ -84,14 +84,14 @@ pub fn steps_laid(recipe: &Recipe) -> usize {
 }
 
 /// What is told, and all slots.
-pub fn translate_array(recipe: &Recipe) -> ([usize; 3], [Step; SLOTS]) {
+pub fn translate_array(recipe: &Recipe) -> (Told, [Step; SLOTS]) {
     // SAFETY: as above.
     let made: Listing = answered(|answer| unsafe { recipes_translator_translate_array(answer, recipe) });
     (made.told.told(), made.steps)
 }
 
 /// What is told.
-pub fn translate(recipe: &Recipe, listing: &mut [Step]) -> [usize; 3] {
+pub fn translate(recipe: &Recipe, listing: &mut [Step]) -> Told {
     let slice = Slice::lent_to_write(listing);
     // SAFETY: as above.
     answered(|answer| unsafe { recipes_lent_translate(answer, recipe, &slice) }).told()

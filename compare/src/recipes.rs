@@ -1,8 +1,9 @@
-//! A reading of document 01's recipes: from a text to a recipe, from that to a listing, from that to what is printed. It
-//! is written from the document alone, with lists and strings. Of the port it has the layout of the records, as in
-//! `steps`, and what the reader fills unused ones with.
+//! A reading of document 01's recipes, with item 1 of document 02: from a text to a recipe, from that to a listing, from
+//! that to what is printed. It is written from the documents alone, with lists and strings. Of the port it has the layout
+//! of the records, as in `steps`, and what the reader fills unused ones with.
 
 use crate::steps::{Count, Form, One, Shift, Size, Step, Two};
+use std::cmp::Ordering;
 use std::fmt::Write;
 use std::iter::{once, repeat};
 
@@ -80,11 +81,31 @@ impl Recipe {
     }
 }
 
-/// A refusal's number, and its text line.
+/// A refusal's number, its text line, and the column of the slip there: of 11 to 14 alone, of others it is 0.
 #[derive(Clone, Copy, PartialEq, Debug)]
 pub struct Refused {
     pub number: u8,
     pub line: usize,
+    pub column: usize,
+}
+
+/// What is told of a translation, in the order of the C function recipe_translate: the refusal's number, its line, the
+/// number of steps, the refusal's column.
+pub type Told = [usize; 4];
+
+impl Refused {
+    /// No refusal.
+    pub const NONE: Refused = Refused::at(0, 0);
+
+    /// One without a column.
+    pub const fn at(number: u8, line: usize) -> Refused {
+        Refused { number, line, column: 0 }
+    }
+
+    /// Told with so many steps.
+    pub fn told(&self, steps: usize) -> Told {
+        [self.number.into(), self.line, steps, self.column]
+    }
 }
 
 /// The widths that there are.
@@ -108,13 +129,21 @@ fn digit(field: &[u8]) -> Option<u8> {
     }
 }
 
-/// A line with its byte 10, if it is a verb with as many digits as that takes.
-fn line_of(text: &[u8]) -> Option<Line> {
-    let mut fields = text.strip_suffix(b"\n")?.split(|&byte| byte == b'\t');
-    let word = fields.next()?;
-    let &(verb, _, takes) = VERBS.iter().find(|(_, name, _)| name.as_bytes() == word)?;
-    let numbers = fields.map(digit).collect::<Option<Vec<u8>>>()?;
-    (numbers.len() == takes).then(|| Line { verb, a: numbers[0], b: *numbers.get(1).unwrap_or(&0) })
+/// A line with its byte 10: a verb and as many digits as that takes. Or the number and the column of what is wrong, where
+/// columns count the line's bytes from 1.
+fn line_of(text: &[u8]) -> Result<Line, (u8, usize)> {
+    let line = text.strip_suffix(b"\n").ok_or((14, text.len() + 1))?;
+    let fields: Vec<&[u8]> = line.split(|&byte| byte == b'\t').collect();
+    let first_byte = |at: usize| 1 + fields[..at].iter().map(|field| field.len() + 1).sum::<usize>();
+    let known = VERBS.iter().find(|(_, name, _)| name.as_bytes() == fields[0]);
+    let &(verb, _, takes) = known.ok_or((11, first_byte(0)))?;
+    let number = |at: usize| digit(fields[at]).ok_or((13, first_byte(at)));
+    match fields.len().cmp(&(1 + takes)) {
+        // the byte 10 is the last byte
+        Ordering::Less => Err((12, text.len())),
+        Ordering::Greater => Err((12, first_byte(1 + takes))),
+        Ordering::Equal => Ok(Line { verb, a: number(1)?, b: if takes == 2 { number(2)? } else { 0 } }),
+    }
 }
 
 /// The reader. A text has begun a line if there is a byte of it.
@@ -122,15 +151,15 @@ pub fn read(text: &[u8]) -> Result<Recipe, Refused> {
     let mut lines = text.split_inclusive(|&byte| byte == b'\n');
     let first = lines.next().unwrap_or_default();
     let width = WIDTHS.into_iter().find(|width| first == format!("width\t{width}\n").as_bytes());
-    let mut recipe = Recipe::empty(width.ok_or(Refused { number: 4, line: 1 })?);
+    let mut recipe = Recipe::empty(width.ok_or(Refused::at(4, 1))?);
     for (at, text) in lines.enumerate() {
-        let refused = |number| Refused { number, line: at + 2 };
+        let here = at + 2;
         if at == LINES_MAX {
-            return Err(refused(8));
+            return Err(Refused::at(8, here));
         }
-        let line = line_of(text).ok_or(refused(5))?;
+        let line = line_of(text).map_err(|(number, column)| Refused { number, line: here, column })?;
         if let Some(number) = fault(recipe.width, &line) {
-            return Err(refused(number));
+            return Err(Refused::at(number, here));
         }
         recipe.lines[at] = line;
         recipe.count += 1;
@@ -173,15 +202,15 @@ fn steps_of(width: u8, line: &Line) -> Vec<Form> {
 /// The translator, for a listing of that many slots. Lines past `count` don't count, nor does a `b` that isn't taken.
 pub fn translate(recipe: &Recipe, slots: usize) -> Result<Vec<Step>, Refused> {
     if !WIDTHS.contains(&recipe.width) {
-        return Err(Refused { number: 4, line: 1 });
+        return Err(Refused::at(4, 1));
     }
     if recipe.count > LINES_MAX {
-        return Err(Refused { number: 8, line: 0 });
+        return Err(Refused::at(8, 0));
     }
     let lines = &recipe.lines[..recipe.count];
     for (at, line) in lines.iter().enumerate() {
         if let Some(number) = fault(recipe.width, line) {
-            return Err(Refused { number, line: at + 2 });
+            return Err(Refused::at(number, at + 2));
         }
     }
     let steps: Vec<Step> = lines
@@ -189,7 +218,7 @@ pub fn translate(recipe: &Recipe, slots: usize) -> Result<Vec<Step>, Refused> {
         .flat_map(|line| steps_of(recipe.width, line))
         .map(|form| Step { size: Size::Long, form })
         .collect();
-    if steps.len() > slots { Err(Refused { number: 9, line: 0 }) } else { Ok(steps) }
+    if steps.len() > slots { Err(Refused::at(9, 0)) } else { Ok(steps) }
 }
 
 /// A step's operation, source, destination and clock figure.
@@ -225,10 +254,19 @@ pub fn taken(input: &[u8]) -> &[u8] {
     &input[..input.len().min(TEXT_MAX)]
 }
 
+/// Whether a text longer than that may be refused so where its cut is refused so: on the same line, and with the same
+/// number and column. But where the cut has no byte 10, the whole's number is any of 11 to 14, and its column any.
+pub fn refused_alike(cut: &Refused, whole: &Refused) -> bool {
+    match cut.number {
+        14 => whole.line == cut.line && (11..=14).contains(&whole.number),
+        _ => whole == cut,
+    }
+}
+
 /// What it prints.
 pub fn answer(text: &[u8]) -> String {
     match read(text).and_then(|recipe| Ok((recipe.width, translate(&recipe, SLOTS)?))) {
         Ok((width, listing)) => print(width, &listing),
-        Err(Refused { number, line }) => format!("refused\t{number}\t{line}\n"),
+        Err(Refused { number, line, column }) => format!("refused\t{number}\t{line}\t{column}\n"),
     }
 }

@@ -32,7 +32,7 @@ const fn kind(name: &'static str, way: Way) -> Kind {
     Kind { name, way }
 }
 
-pub const KINDS: [Kind; 39] = [
+pub const KINDS: [Kind; 44] = [
     kind("sound", Whole(|random| sound(random).bytes())),
     kind("byte changed", Bytes(|random, text| changed(random, text))),
     kind("byte removed", Bytes(removed)),
@@ -55,6 +55,8 @@ pub const KINDS: [Kind; 39] = [
     kind("line removed", Fields(line_removed)),
     kind("field too many", Fields(field_added)),
     kind("field too few", Fields(field_removed)),
+    kind("fields left off at the end", Fields(left_off)),
+    kind("fields put on at the end", Fields(put_on)),
     kind("field not one digit", Fields(not_one_digit)),
     kind("digit 8 or 9", Fields(|random, draft| *draft.number(random) = random.pick(&["8", "9"]).into())),
     kind("number beyond the width", Fields(beyond)),
@@ -70,6 +72,9 @@ pub const KINDS: [Kind; 39] = [
     kind("verb and any digits", Fields(any_digits)),
     kind("width line", Fields(|random, draft| draft.lines[0] = vec![random.pick(&WIDTH_LINES).into()])),
     kind("another width", Fields(|random, draft| draft.lines[0] = width_line(random.pick(&WIDTHS)))),
+    kind("any slips on a line", Whole(any_slips)),
+    kind("width line, or one too many, without 10", Whole(unended)),
+    kind("long line", Whole(long_line)),
     kind("line too many begun", Whole(begun)),
     kind("any bytes", Whole(any_bytes)),
     kind("any words", Whole(any_words)),
@@ -281,19 +286,36 @@ fn field_removed(random: &mut Random, draft: &mut Draft) {
 fn not_one_digit(random: &mut Random, draft: &mut Draft) {
     let field = draft.number(random);
     let digit = field.clone();
-    *field = match random.below(10) {
-        0 => String::new(),
-        1 => format!("0{digit}"),
-        2 => format!("{digit}0"),
-        3 => format!("{digit}{digit}"),
-        4 => format!(" {digit}"),
-        5 => format!("+{digit}"),
-        6 => format!("-{digit}"),
-        7 => format!("D{digit}"),
+    *field = match random.below(13) {
+        0 | 1 => String::new(),
+        2 => format!("0{digit}"),
+        3 => format!("{digit}0"),
+        4 => format!("{digit}{digit}"),
+        5 => format!(" {digit}"),
+        6 => format!("+{digit}"),
+        7 => format!("-{digit}"),
+        8 => format!("D{digit}"),
+        9 => format!("{digit}\r"),
         // the bytes next to the digits, and a digit that is none here
-        8 => random.pick(&["/", ":", "a", "A"]).into(),
+        10 => random.pick(&["/", ":", "a", "A"]).into(),
+        11 => random.pick(&["\r", " ", "\0", "\u{7f}"]).into(),
         _ => "\u{661}".into(),
     };
+}
+
+/// The verb stays.
+fn left_off(random: &mut Random, draft: &mut Draft) {
+    let line = draft.line(random);
+    let count = random.below(line.len().saturating_sub(1).max(1));
+    line.truncate(1 + count);
+}
+
+/// One to three, the first of them often empty.
+fn put_on(random: &mut Random, draft: &mut Draft) {
+    let line = draft.line(random);
+    for _ in 0..1 + random.below(3) {
+        line.push(random.pick(&["", "", "0", "9", "12", "x", "\r", " "]).into());
+    }
 }
 
 fn beyond(random: &mut Random, draft: &mut Draft) {
@@ -333,6 +355,77 @@ fn any_digits(random: &mut Random, draft: &mut Draft) {
         line.push(random.below(10).to_string());
     }
     *draft.line(random) = line;
+}
+
+/// A word that mostly is a verb, and fields, half of the time as many as the verb takes, each as often a digit as not: several
+/// slips, one or none.
+fn any_line(random: &mut Random) -> String {
+    let other = random.pick(&["", "mul", "Add", "negx", "hal", "add 0", " up", "width", "sub\r", "no\0t"]);
+    let (_, verb, takes) = random.pick(&VERBS);
+    let mut line = random.pick(&[verb, verb, verb, other]).to_string();
+    let count = random.below(5);
+    for _ in 0..random.pick(&[takes, count]) {
+        let digit = random.pick(&["0", "1", "2", "4", "7", "8", "9"]);
+        let other = random.pick(&["", "", "00", "10", "x", "0\r", "\r", " 1", "1 ", "-1", "\0", "/", ":"]);
+        line = line + "\t" + random.pick(&[digit, other]);
+    }
+    line
+}
+
+/// A sound text with such a line among its lines, or as its last, with its byte 10 or without.
+fn any_slips(random: &mut Random) -> Vec<u8> {
+    let mut draft = sound(random);
+    let at = 1 + place(random, draft.lines.len());
+    draft.lines.insert(at, vec![any_line(random)]);
+    if random.below(2) == 0 {
+        return draft.bytes();
+    }
+    draft.lines.truncate(at + 1);
+    let mut text = draft.bytes();
+    text.truncate(text.len() - random.below(2));
+    text
+}
+
+/// The width line alone, or all lines that there may be and one more, with no byte 10 at the end.
+fn unended(random: &mut Random) -> Vec<u8> {
+    let mut draft = sound(random);
+    if random.below(2) == 0 {
+        draft.lines.truncate(1);
+        if random.below(2) == 0 {
+            draft.lines[0] = vec![random.pick(&WIDTH_LINES).into()];
+        }
+    } else {
+        draft.lines.resize_with(1 + LINES_MAX, || sound_fields(random, draft.width));
+        draft.lines.push(vec![any_line(random)]);
+    }
+    let mut text = draft.bytes();
+    text.pop();
+    text
+}
+
+/// A sound text with a line that ends about where the program stops to read, or behind it, and has its slip in front of
+/// what makes it long, or in that. The line is the text's last, and then may have no byte 10, or it is followed by others.
+fn long_line(random: &mut Random) -> Vec<u8> {
+    let draft = sound(random);
+    let at = random.pick(&[0, 1, 1, 1, 1, 2, LINES_MAX, LINES_MAX + 1]).min(draft.lines.len());
+    let written = |lines: &[Vec<String>]| Draft { width: draft.width, lines: lines.to_vec() }.bytes();
+    let mut text = written(&draft.lines[..at]);
+    let heads =
+        ["", "x", "width\t", "neg", "neg\t", "add\t0", "add\t0\t", "neg\t0\t", "add\tx\t1\t", "copy\t\t"];
+    text.extend(if random.below(4) == 0 { any_line(random) } else { random.pick(&heads).into() }.bytes());
+    let past = if random.below(4) == 0 { random.below(TEXT_MAX) } else { random.below(7) };
+    let length = TEXT_MAX - 4 + past;
+    let fill = random.pick(b"xx00\t \r\0\xff\n");
+    while text.len() < length {
+        // byte 10 stands for any byte but that
+        text.push(if fill == b'\n' { 11 + random.below(245) as u8 } else { fill });
+    }
+    let ends: [&[u8]; 6] = [b"", b"\n", b"\n", b"\t0\n", b"\t\n", b"0\n"];
+    text.extend(random.pick(&ends));
+    if text.ends_with(b"\n") && random.below(2) == 0 {
+        text.extend(written(&draft.lines[at..]));
+    }
+    text
 }
 
 /// As many lines as there may be, mostly sound, and the beginning of another, or more.

@@ -1,16 +1,18 @@
-//! The port's recipes against the reading of document 01 in src/recipes.rs.
+//! The port's recipes against the reading of documents 01 and 02 in src/recipes.rs.
 //!
 //!   recipes agree [TEXTS]   the rows of examples/refusals.tsv and of `BY_HAND`; random texts, and a tenth as many recipes made by hand
 //!
-//! SEED is the random numbers' seed. How often each refusal and each of `CASES` was met is printed; if one never was, the status is 2.
+//! SEED is the random numbers' seed. How often each refusal, each of src/slips.rs and each of `CASES` was met is printed; if one never
+//! was, the status is 2.
 
 use compare::c_functions::{TOLD, recipe_answer, recipe_translate};
 use compare::cases::Random;
 use compare::check::Tally;
 use compare::ported_recipes as ported;
-use compare::recipes::{LINES_MAX, Line, PRINT_MAX, Recipe, Refused, SLOTS, STEPS_MAX, Verb};
-use compare::recipes::{answer, read, taken, translate};
+use compare::recipes::{LINES_MAX, Line, PRINT_MAX, Recipe, Refused, SLOTS, STEPS_MAX, Told, Verb};
+use compare::recipes::{answer, read, refused_alike, taken, translate};
 use compare::refusals;
+use compare::slips::{self, Slip};
 use compare::steps::{Form, Size, Step};
 use compare::texts::{self, KINDS, LONGEST};
 use std::collections::BTreeMap;
@@ -27,7 +29,7 @@ const EMPTY: u64 = 0xA5A5_A5A5_A5A5_A5A5;
 type Met = BTreeMap<usize, u64>;
 
 /// The numbers that a text or a row can be refused with, and 0.
-const NUMBERS: [usize; 7] = [0, 4, 5, 6, 7, 8, 9];
+const NUMBERS: [usize; 10] = [0, 4, 6, 7, 8, 9, 11, 12, 13, 14];
 
 /// Prints it; whether all of `wanted` were met.
 fn are_met(name: &str, met: &Met, wanted: &[usize]) -> bool {
@@ -42,6 +44,14 @@ fn are_met(name: &str, met: &Met, wanted: &[usize]) -> bool {
         println!("NO SUCH NUMBER: {name}: {others:?}");
     }
     missing.is_empty() && others.is_empty()
+}
+
+/// Prints how often each was met; whether all were.
+fn all_met(counts: impl Iterator<Item = (String, u64)>) -> bool {
+    counts.fold(true, |met, (name, count)| {
+        println!("{}{name}\t{count}", if count == 0 { "NEVER MET: " } else { "" });
+        met && count > 0
+    })
 }
 
 /// What is printed, byte for byte, with nothing written behind it.
@@ -62,8 +72,7 @@ fn compare_printed(text: &[u8], out: &mut [u8; PRINT_MAX], tally: &mut Tally) {
 
 /// What is read; of a refused text a recipe of width 1 without lines.
 fn compare_read(text: &[u8], tally: &mut Tally) {
-    let want =
-        read(text).map_or_else(|r| (r, Recipe::empty(1)), |recipe| (Refused { number: 0, line: 0 }, recipe));
+    let want = read(text).map_or_else(|r| (r, Recipe::empty(1)), |recipe| (Refused::NONE, recipe));
     let got = ported::read(text);
     tally.count(got == want, || {
         format!("text \"{}\"\n  port     {got:?}\n  reading  {want:?}", text.escape_ascii())
@@ -72,17 +81,17 @@ fn compare_read(text: &[u8], tally: &mut Tally) {
 
 /// The listing in words, into a row with a slot too few, one with just enough and a long one; nothing is written behind it. What the
 /// reading tells of each.
-fn compare_listings(text: &[u8], tally: &mut Tally) -> [[usize; 3]; 3] {
+fn compare_listings(text: &[u8], tally: &mut Tally) -> [Told; 3] {
     let recipe = read(text);
     let made = |slots| recipe.and_then(|recipe| translate(&recipe, slots));
     let needed = made(STEPS_MAX).map_or(0, |steps| steps.len());
     [needed.saturating_sub(1), needed, LONGEST].map(|slots| {
         let mut row = vec![EMPTY; LONGEST];
         let want = wanted(made(slots), &row, Step::word);
-        let [number, line, count, rest @ ..] =
+        let [number, line, count, column, rest @ ..] =
             recipe_translate(text, &mut row[..slots]).map(|word| word as usize);
-        let got = Laid { told: [number, line, count], row };
-        tally.count(got == want && rest == [0; TOLD - 3], || {
+        let got = Laid { told: [number, line, count, column], row };
+        tally.count(got == want && rest == [0; TOLD - 4], || {
             let (text, shown) = (text.escape_ascii(), got.shown_against(&want));
             format!(
                 "text \"{text}\", {slots} slots\n  port     {shown}, then {rest:x?}\n  reading  {:?}",
@@ -94,7 +103,7 @@ fn compare_listings(text: &[u8], tally: &mut Tally) -> [[usize; 3]; 3] {
 }
 
 /// What the reading tells of the listings.
-fn compare_text(text: &[u8], out: &mut [u8; PRINT_MAX], tally: &mut Tally) -> [[usize; 3]; 3] {
+fn compare_text(text: &[u8], out: &mut [u8; PRINT_MAX], tally: &mut Tally) -> [Told; 3] {
     compare_printed(text, out, tally);
     compare_read(text, tally);
     compare_listings(text, tally)
@@ -119,25 +128,43 @@ fn compare_rows(tally: &mut Tally) -> usize {
     rows.len()
 }
 
-/// Random texts, as many of each kind. A text longer than the program reads is compared cut and whole: both meet one refusal.
-/// Refusal 9 is that of a row with a slot too few for an accepted text.
+/// A text longer than the program reads is compared whole too: cut and whole are refused alike. What the whole is refused with.
+fn compare_whole(
+    input: &[u8],
+    cut: Option<Refused>,
+    out: &mut [u8; PRINT_MAX],
+    tally: &mut Tally,
+) -> Option<Refused> {
+    compare_text(input, out, tally);
+    let whole = read(input).err();
+    let alike = cut.zip(whole).is_some_and(|(cut, whole)| refused_alike(&cut, &whole));
+    tally.count(alike, || format!("{} bytes: {whole:?}, cut {cut:?}", input.len()));
+    whole
+}
+
+/// Random texts, as many of each kind. Refusal 9 is that of a row with a slot too few for an accepted text.
 fn compare_texts(count: u64, random: &mut Random, tally: &mut Tally) -> bool {
     let mut out = UNTOUCHED;
     let mut met = [const { Met::new() }; KINDS.len()];
     // no line is refused; or the recipe's first (or the width line), one between, the text's last
     let mut places = [const { Met::new() }; 4];
+    let mut slips = [0; slips::CASES.len()];
     let mut long = 0;
     for at in 0..count {
         let kind = (at % KINDS.len() as u64) as usize;
         let input = KINDS[kind].text(random);
         let text = taken(&input);
-        let told = compare_text(text, &mut out, tally);
+        let [[short, ..], _, [number, line, ..]] = compare_text(text, &mut out, tally);
+        let refused = read(text).err();
+        let mut whole = None;
         if text.len() < input.len() {
-            let whole = compare_text(&input, &mut out, tally);
-            tally.count(whole == told, || format!("{} bytes: {whole:?}, cut {told:?}", input.len()));
+            whole = compare_whole(&input, refused, &mut out, tally);
             long += 1;
         }
-        let [[short, ..], _, [number, line, _]] = told;
+        if let Some(refused) = refused {
+            let slip = Slip::of(text, refused, whole);
+            slips.iter_mut().zip(&slips::CASES).for_each(|(sum, case)| *sum += u64::from(slip.is(case)));
+        }
         let last = text.split_inclusive(|&byte| byte == b'\n').count();
         let place = if line <= 2 { line.min(1) } else { 2 + usize::from(line == last) };
         for met in [&mut met[kind], &mut places[place]] {
@@ -147,18 +174,21 @@ fn compare_texts(count: u64, random: &mut Random, tally: &mut Tally) -> bool {
             }
         }
     }
-    println!("longer than the program reads\t{long}\ntexts\taccepted\t4\t5\t6\t7\t8\t9");
+    println!("longer than the program reads\t{long}");
+    println!("texts\taccepted\t{}", NUMBERS[1..].iter().map(usize::to_string).collect::<Vec<_>>().join("\t"));
     KINDS.iter().zip(met).for_each(|(kind, met)| _ = are_met(kind.name, &met, &[]));
-    are_met("accepted", &places[0], &[0, 9])
-        & are_met("refused on the first line", &places[1], &[4, 5, 6, 7])
-        & are_met("refused on a line between", &places[2], &[5, 6, 7, 8])
-        & are_met("refused on the last line", &places[3], &[5, 6, 7, 8])
+    let names = slips::CASES.iter().map(|(number, name, _)| format!("{number}: {name}"));
+    all_met(names.zip(slips))
+        & are_met("accepted", &places[0], &[0, 9])
+        & are_met("refused on the first line", &places[1], &[4, 6, 7, 11, 12, 13, 14])
+        & are_met("refused on a line between", &places[2], &[6, 7, 8, 11, 12, 13])
+        & are_met("refused on the last line", &places[3], &[6, 7, 8, 11, 12, 13, 14])
 }
 
-/// What a translation tells (the refusal's number, its line, the steps), and the row that it leaves.
+/// What a translation tells, and the row that it leaves.
 #[derive(PartialEq)]
 struct Laid<T> {
-    told: [usize; 3],
+    told: Told,
     row: Vec<T>,
 }
 
@@ -173,16 +203,16 @@ impl<T: PartialEq + Debug> Laid<T> {
 
 /// Of what the reading made for such a row; `laid` is what a slot gets of a step.
 fn wanted<T: Copy>(made: Result<Vec<Step>, Refused>, before: &[T], laid: impl Fn(&Step) -> T) -> Laid<T> {
-    let [number, line] = made.as_ref().map_or_else(|r| [r.number.into(), r.line], |_| [0, 0]);
+    let refused = *made.as_ref().err().unwrap_or(&Refused::NONE);
     let mut row: Vec<T> = made.unwrap_or_default().iter().map(laid).collect();
     let count = row.len();
     row.extend(&before[count..]);
-    Laid { told: [number, line, count], row }
+    Laid { told: refused.told(count), row }
 }
 
 /// A recipe translated into a row, and by value; what the reading tells of the first. Document 01 doesn't say what a listing
 /// by value has in its other slots: it must be the same step in all answers.
-fn compare_recipe(recipe: &Recipe, before: &[Step], tally: &mut Tally) -> [usize; 3] {
+fn compare_recipe(recipe: &Recipe, before: &[Step], tally: &mut Tally) -> Told {
     let mut row = before.to_vec();
     let told = ported::translate(recipe, &mut row);
     let made = |slots| translate(recipe, slots);
@@ -206,7 +236,7 @@ fn compare_recipe(recipe: &Recipe, before: &[Step], tally: &mut Tally) -> [usize
 }
 
 /// A recipe made by hand: its width; the number of its lines; what these are, the 18th, and the last that there is room for; the slots
-/// that it is translated into; and what comes of it: refusal, its line, steps.
+/// that it is translated into; and what comes of it: refusal, its line, steps. The translator's refusals have no column.
 type ByHand = (u8, usize, [Line; 3], usize, [usize; 3]);
 
 const fn line(verb: Verb, a: u8, b: u8) -> Line {
@@ -253,12 +283,13 @@ fn compare_by_hand(tally: &mut Tally) {
         (recipe.lines[17], recipe.lines[LINES_MAX - 1]) = (one, last);
         let row = vec![Step { size: Size::Word, form: Form::Chk(1, 2) }; slots];
         let reading = compare_recipe(&recipe, &row, tally);
-        tally.count(reading == told, || format!("{recipe:?}: the reading {reading:?}, the row {told:?}"));
+        let alike = reading[..3] == told && reading[3] == 0;
+        tally.count(alike, || format!("{recipe:?}: the reading {reading:?}, the row {told:?}"));
     }
 }
 
 /// Whether a recipe is such a case, by itself and by what the reading tells of it.
-type Case = fn(&Recipe, [usize; 3]) -> bool;
+type Case = fn(&Recipe, Told) -> bool;
 
 /// What must be met in recipes made by hand. Most of it no text can say.
 const CASES: [(&str, Case); 11] = [
@@ -271,10 +302,10 @@ const CASES: [(&str, Case); 11] = [
     ("width 255", |recipe, told| told[0] == 4 && recipe.width == 255),
     ("a line too many", |recipe, told| told[0] == 8 && recipe.count == LINES_MAX + 1),
     ("more lines", |recipe, told| told[0] == 8 && recipe.count > LINES_MAX + 1),
-    ("a digit past the numbers", |recipe, [number, line, _]| {
+    ("a digit past the numbers", |recipe, [number, line, ..]| {
         number == 6 && recipe.lines[line - 2].named().any(|n| (8 / recipe.width..10).contains(&n))
     }),
-    ("a number above 9", |recipe, [number, line, _]| {
+    ("a number above 9", |recipe, [number, line, ..]| {
         number == 6 && recipe.lines[line - 2].named().any(|n| n > 9)
     }),
     ("a copy onto itself", |_, told| told[0] == 7),
@@ -291,10 +322,7 @@ fn compare_recipes(count: u64, random: &mut Random, tally: &mut Tally) -> bool {
         let told = compare_recipe(&recipe, &row, tally);
         met.iter_mut().zip(CASES).for_each(|(sum, (_, is))| *sum += u64::from(is(&recipe, told)));
     }
-    for ((name, _), sum) in CASES.iter().zip(met) {
-        println!("{}by hand: {name}\t{sum}", if sum == 0 { "NEVER MET: " } else { "" });
-    }
-    !met.contains(&0)
+    all_met(CASES.iter().map(|(name, _)| format!("by hand: {name}")).zip(met))
 }
 
 fn agree(texts: u64, mut random: Random) -> ExitCode {
