@@ -1,4 +1,5 @@
-"""Document 01's recipes read in Python, for tools/recipe-vectors, tools/bench-cases and tools/hostile. It uses nothing of the product.
+"""Document 01's recipes, with item 1 of document 02, read in Python, for tools/recipe-vectors, tools/bench-cases and tools/hostile. It uses nothing
+of the product.
 
 A step is done by arithmetic on words, what a line means is told of whole numbers: neither uses the other's rules, so that one can be held against
 the other. At the end stands what these tools share beside that: random and damaged recipes, words for the program bench, and how a tool reads its
@@ -27,7 +28,8 @@ WIDTHS = (1, 2, 4)  # registers of a number
 BITS = 32  # bits of a register
 TOP = BITS - 1  # its highest bit
 WORD = (1 << BITS) - 1  # the greatest value of a register, and the greatest step budget
-BAD_WIDTH, BAD_LINE, NO_SUCH_NUMBER, ONTO_ITSELF, TOO_MANY_LINES = READER_REFUSALS = 4, 5, 6, 7, 8
+READER_REFUSALS = 4, 6, 7, 8, 11, 12, 13, 14
+BAD_WIDTH, NO_SUCH_NUMBER, ONTO_ITSELF, TOO_MANY_LINES, UNKNOWN_VERB, WRONG_FIELDS, NOT_A_DIGIT, NO_BYTE_10 = READER_REFUSALS
 PAST_THE_END = 10
 FLAGS = "XNZVC"
 X, N, Z, V, C = 16, 8, 4, 2, 1
@@ -121,24 +123,40 @@ def line_done(line, w, numbers, flags):
 
 
 class Refused(Exception):
-    """A refusal's number, and its text line or place."""
+    """A text's: the number, the text line and the column there. A run's: the number and the place."""
 
     def __str__(self):
-        return "refused\t%d\t%d\n" % self.args
+        return "\t".join(["refused", *map(str, self.args)]) + "\n"
+
+
+def slip(row):
+    """The number and the column of what is wrong with a line's writing, if anything is. Columns count the line's bytes from 1."""
+    if not row.endswith(b"\n"):
+        return NO_BYTE_10, len(row) + 1
+    verb, *fields = row[:-1].split(b"\t")
+    known = {word.encode(): VERBS[word].takes for word in VERBS}
+    if verb not in known:
+        return UNKNOWN_VERB, 1
+    begins = [tab.end() + 1 for tab in re.finditer(rb"\t", row)]  # each field's column: one behind its tab
+    if len(fields) < known[verb]:
+        return WRONG_FIELDS, row.index(b"\n") + 1
+    if len(fields) > known[verb]:
+        return WRONG_FIELDS, begins[known[verb]]
+    bad = [column for field, column in zip(fields, begins) if not re.fullmatch(rb"[0-9]", field)]
+    return (NOT_A_DIGIT, bad[0]) if bad else None
 
 
 def read_line(row, w, at):
     """A text line: its verb and numbers a and b, of which b is the target."""
-    verb, *fields = row.removesuffix(b"\n").split(b"\t")
-    verb = verb.decode("latin-1")
-    known = row.endswith(b"\n") and verb in VERBS and len(fields) == VERBS[verb].takes
-    if not known or not all(re.fullmatch(rb"[0-9]", field) for field in fields):
-        raise Refused(BAD_LINE, at)
+    if found := slip(row):
+        number, column = found
+        raise Refused(number, at, column)
+    verb, *fields = row.decode().split()
     a, b = int(fields[0]), int(fields[-1])
     if max(a, b) >= REGISTERS // w:
-        raise Refused(NO_SUCH_NUMBER, at)
+        raise Refused(NO_SUCH_NUMBER, at, 0)
     if verb == "copy" and a == b:
-        raise Refused(ONTO_ITSELF, at)
+        raise Refused(ONTO_ITSELF, at, 0)
     return verb, a, b
 
 
@@ -147,11 +165,11 @@ def read(text):
     head, *rows = io.BytesIO(text[:TEXT_MAX]).readlines() or [b""]
     widths = {b"width\t%d\n" % w: w for w in WIDTHS}
     if head not in widths:
-        raise Refused(BAD_WIDTH, 1)
+        raise Refused(BAD_WIDTH, 1, 0)
     w, lines = widths[head], []
     for at, row in enumerate(rows, 2):
         if len(lines) == LINES_MAX:
-            raise Refused(TOO_MANY_LINES, at)
+            raise Refused(TOO_MANY_LINES, at, 0)
         lines.append(read_line(row, w, at))
     return w, lines
 
@@ -263,8 +281,28 @@ def some_recipe(rng):
     return w, lines
 
 
+FIELDS = [b"", b"", b"00", b"12", b"x", b"0\r", b"\r", b" 1", b"1 ", b"-1", b"D0", b"/", b":", b"\0", b"\xff", b"\xc3\xa9"]  # none is one digit
+WORDS = [b"", b"mul", b"Add", b"negx", b"hal", b"add 0", b" up", b"width", b"sub\r", b"no\0t", b"\xc3\xa9"]  # none is a verb
+
+
+def some_line(rng):
+    """A line of a word, mostly a verb, and fields, half of the time as many as the verb takes, each as often a digit as not: several slips, one or
+    none. It has no byte 10."""
+    verb = rng.choice([*VERBS])
+    word, count = rng.choice([*[verb.encode()] * 3, rng.choice(WORDS)]), rng.choice([VERBS[verb].takes, rng.randrange(5)])
+    return b"\t".join([word, *(rng.choice([b"%d" % rng.randrange(10), rng.choice(FIELDS)]) for _ in range(count))])
+
+
+def long_line(rng, before):
+    """A line that ends about where a program stops to read, or behind it, if it comes behind so many bytes; with its byte 10 or without."""
+    head = rng.choice([b"", b"x", b"neg\t", b"add\t0", b"add\t0\t", b"neg\t0\t", b"add\tx\t1\t", some_line(rng)])
+    length = TEXT_MAX - before - len(head) + rng.choice([-2, -1, 0, 1, rng.randrange(TEXT_MAX)])
+    return head + rng.choice([b"x", b"0", b"\t", b" ", b"\0", b"\xff"]) * length + rng.choice([b"", b"\n", b"\n"])
+
+
 def hurt(rng, text):
-    """With bytes put in, changed, taken out or doubled; cut; with a line that is well written and bad; with lines or bytes more; or any bytes."""
+    """With bytes put in, changed, taken out or doubled; cut; with a line that is well written and bad, or any line, or a long one; with that as the
+    last, ended or not; with lines or bytes more; or any bytes."""
     at, byte = rng.randint(0, len(text)), rng.choice([rng.randbytes(1), *(bytes([b]) for b in b"\t\n\r 0123456789acdeghlnopstuvw\0\xff")])
     bad = rng.choice([b"neg\t9\n", b"add\t0\t8\n", b"sub\t4\t0\n", b"copy\t0\t0\n", b"copy\t1\t1\n", b"copy\t9\t9\n"])
     more = b"neg\t0\n" * (rng.choice([LINES_MAX, LINES_MAX + 1, TEXT_MAX]) + 1 - text.count(b"\n"))
@@ -273,7 +311,8 @@ def hurt(rng, text):
     tail = bytes(rng.choices(b"\t\n0123456789 abcdefghijklmnopqrstuvwxyz", k=length))
     edits = [byte + after, byte + after[1:], after[1:], after[4:], after[: rng.randrange(40)] + after, b""]
     whole = [text[:line] + bad + text[line:], text + more, text + tail, (text + tail)[:length], rng.randbytes(length)]
-    return rng.choices([before + rng.choice(edits), *whole], [8, 5, 5, 1, 1, 1])[0]
+    whole += [text[:line] + some_line(rng) + b"\n" + text[line:], text[:line] + some_line(rng), text[:line] + long_line(rng, line) + text[line:]]
+    return rng.choices([before + rng.choice(edits), *whole], [8, 5, 5, 1, 1, 1, 5, 2, 2])[0]
 
 
 def damaged(rng, text):
