@@ -1,5 +1,5 @@
-// Runs the cases of data/, a row for each: recipe texts and what the program `recipe` prints for them (refusals.tsv), runs
-// of listings (runs.tsv), and recipes run by one call (recipes.tsv). A row has fields parted by tabs, its name first; a line
+// Runs the cases of data/, a row for each: recipe texts and what is printed for them (refusals.tsv), runs of listings
+// (runs.tsv), and recipes run by one call (recipes.tsv). A row has fields parted by tabs, its name first; a line
 // that begins with # is none. A row that fails, or does not read, is told with its name, its file and its line.
 mod fields;
 mod runs;

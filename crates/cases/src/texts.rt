@@ -1,8 +1,8 @@
 // Rows that have a recipe's text behind their name.
 //
-// Of refusals.tsv: all that the program `recipe` prints for it.
-// Of recipes.tsv, by their columns: 2 flags, 3 to 10 D0 to D7 before; 11 to 15 what is told (bindings/c/gromavelush.h); 16 flags,
-// 17 to 24 D0 to D7 after. The address registers have fixed values and keep them.
+// Of refusals.tsv: all that is printed for it.
+// Of recipes.tsv, by their columns: 2 flags, 3 to 10 D0 to D7 before; 11 to 16 what is told (bindings/c/gromavelush.h); 17 flags,
+// 18 to 25 D0 to D7 after. The address registers have fixed values and keep them.
 ghost use Prim.Native.Nat.{_+_, _≤_};
 ghost use Rattle.recipes.specs.Printer.{printMax};
 use crate::fields::COLUMNS;
@@ -49,16 +49,16 @@ fn runs(text: &[u8], v: [u64; COLUMNS]) -> bool {
     let mut flags = byte(v[2]);
     let mut told = [1u64; TOLD];
     recipe_calls::recipe_run(text, &mut d, &mut a, &mut flags, &mut told);
-    same_told(v, 11, 5, told)
-        & (v[16] == flags as u64)
-        & same_registers(d, eight(v, 17))
+    same_told(v, 11, 6, told)
+        & (v[17] == flags as u64)
+        & same_registers(d, eight(v, 18))
         & same_registers(a, FIXED)
 }
 
 fn runs_as_told(row: &[u8], tab: usize, text: &[u8]) -> bool {
     let mut v = [0u64; COLUMNS];
     let last = numbers_of(row, tab, 1, &mut v);
-    (last == 24) & runs(text, v)
+    (last == 25) & runs(text, v)
 }
 
 fn within(length: usize) -> usize
