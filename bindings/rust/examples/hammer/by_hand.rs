@@ -39,10 +39,9 @@ fn wanted(recipe: &Recipe, made: &safe::Recipe) -> Wanted {
     if !WIDTHS.contains(&made.width) {
         return Err(Refused { number: 4, line: 1, column: 0 });
     }
-    let mut faults =
-        made.lines.iter().enumerate().filter_map(|(at, line)| {
-            fault(made.width, at, line).map(|(number, column)| Refused { number, line: at + 2, column })
-        });
+    let mut faults = made.lines.iter().enumerate().filter_map(|(at, line)| {
+        fault(made.width, at, line).map(|(number, column)| Refused { number, line: at + 2, column })
+    });
     faults.next().map_or(Ok(*recipe), Err)
 }
 

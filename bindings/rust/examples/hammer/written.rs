@@ -59,7 +59,8 @@ fn ran(recipe: &Wanted, mut state: State) -> ([u64; TOLD], State, u8) {
     let recipe = match recipe {
         Ok(recipe) => recipe,
         Err(refused) => {
-            let told = told_of(&[refused.number.into(), refused.line as u64, 31, 0, 0, refused.column as u64]);
+            let told =
+                told_of(&[refused.number.into(), refused.line as u64, 31, 0, 0, refused.column as u64]);
             return (told, state, state.flags.ccr());
         }
     };

@@ -229,11 +229,17 @@ fn number_10_start_places() {
 #[test]
 fn each_number_has_its_words() {
     let numbers: Vec<u8> = Refusal::ALL.iter().map(|refusal| refusal.number()).collect();
-    assert_eq!(numbers, (1..=10).collect::<Vec<u8>>(), "document 01's");
+    assert_eq!(
+        numbers,
+        [1, 2, 3, 4, 6, 7, 8, 9, 10, 11, 12, 13, 14],
+        "document 01's, and 02's for one of them"
+    );
     for (refusal, number) in Refusal::ALL.iter().zip(numbers) {
         assert!(refusal.to_string().starts_with(&format!("refused with {number}: ")));
     }
     let refused = translate(b"width\t1\nneg\t8\n").expect_err("there is no number 8");
     assert!(refused.to_string().starts_with("line 2: refused with 6: there is no such number"));
+    let refused = translate(b"width\t1\nneg\tx\n").expect_err("x is no digit");
+    assert!(refused.to_string().starts_with("line 2, column 5: refused with 13: a number is one digit"));
     assert!(Refusal::TooManyLines.to_string().contains(&format!(" {MOST_LINES} lines")));
 }
