@@ -11,7 +11,7 @@
 #include <stdlib.h>
 #include <string.h>
 
-enum { SLOTS = GRO_SLOTS + 44, TEXT = GRO_TEXT + 176, OPERATIONS = GRO_CHK + 1, SIZES = GRO_LONG + 1, GUARD = 8, NUMBERS = 11 };
+enum { SLOTS = GRO_SLOTS + 44, TEXT = GRO_TEXT + 176, OPERATIONS = GRO_CHK + 1, SIZES = GRO_LONG + 1, GUARD = 8, NUMBERS = 14 };
 
 /* The numbers of the header, and how often each was met. */
 struct counts {
