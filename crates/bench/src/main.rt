@@ -1,7 +1,7 @@
 // Shows a recipe's listing running. The recipe's text is the first `TEXT_MAX` bytes of standard input; the words that the
 // program is started with give the registers and flags, the start place and the number of steps (words.rt). Standard
-// output gets a table for people (table.rt) or plain rows (rows.rt), and of a refused recipe its refusal. Where a word is
-// not understood, or reading or writing fails, standard error says so.
+// output gets a table for people (table.rt) or plain rows (rows.rt), and of a refused recipe its refusal, with the table's
+// place taken by what is wrong (slips.rt). Where a word is not understood, or reading or writing fails, standard error says so.
 mod carry;
 mod course;
 mod ending;
@@ -9,6 +9,7 @@ mod lines;
 mod numbers;
 mod pen;
 mod rows;
+mod slips;
 mod table;
 mod words;
 
@@ -21,6 +22,7 @@ use recipes::translator::translate_array;
 use recipes::types::Recipe;
 use recipes::types::TEXT_MAX;
 use recipes::types::is_nothing;
+use slips::put_slip;
 use words::Asked;
 use words::read_words;
 
@@ -44,7 +46,11 @@ fn answer(out: &mut [u8], asked: Asked, text: &[u8]) -> usize {
     let refused = reading.refused;
     let recipe = reading.recipe;
     if !is_nothing(refused) {
-        return print_refusal(refused, out);
+        let next = print_refusal(refused, out);
+        if asked.rows {
+            return next;
+        }
+        return put_slip(out, next, text, refused);
     }
     put_run(out, asked, text, recipe)
 }
