@@ -23,7 +23,7 @@ use Rattle.recipes.specs.declared.lines.Way.{Way}
 abbrev pub linesMax : ℕ
 linesMax = 32
 
--- the refusal numbers of the two documents; 0 is none. Nothing is refused with 5, which 11 to 14 replace
+-- the refusal numbers of documents 01 and 02; 0 is none
 abbrev pub numberOf : Refusal → ℕ
 numberOf Nothing = 0
 numberOf WidthLine = 4
@@ -47,6 +47,7 @@ atLine k line = atColumn k line 0
 abbrev pub noRefusal : Refused
 noRefusal = atLine Nothing 0
 
+-- whether nothing is refused
 abbrev pub passes : Refusal → Bool
 passes k = eqb (numberOf k) 0
 
