@@ -107,7 +107,10 @@ size_t listing_print(uint8_t width, const uint64_t *listing, size_t length, uint
  */
 void recipe_translate(const uint8_t *text, size_t text_length, uint64_t *listing, size_t length, uint64_t told[GRO_TOLD]);
 
-/* What the program recipe prints for a text: the listing, or `refused`, number, line and column. Answers as listing_print does. */
+/*
+ * What the program recipe prints for a text that it reads whole, of at most GRO_TEXT bytes: the listing, or `refused`, number, line and
+ * column. A longer text is read whole here; the program reads its first GRO_TEXT bytes. Answers as listing_print does.
+ */
 size_t recipe_answer(const uint8_t *text, size_t length, uint8_t *out, size_t room);
 
 /*

@@ -253,8 +253,10 @@ static void run_recipe_one(const char *text, const uint64_t *should, uint32_t d2
 
 static void test_recipes(void) {
     const uint64_t sum_12[GRO_TOLD] = {0, 0, 31, 4, 20}, refused[GRO_TOLD] = {6, 2, 31, 0, 0}, open[GRO_TOLD] = {0, 0, 16, 2, 20};
+    const uint64_t slip[GRO_TOLD] = {12, 2, 31, 0, 0, 8};
     run_recipe_one(example, sum_12, 0, 0xFFFFFFFF, GRO_X | GRO_N | GRO_C);
     run_recipe_one("width\t4\nadd\t0\t2\n", refused, 0xFFFFFFFF, 0, 31);
+    run_recipe_one("width\t4\nadd\t0 1\n", slip, 0xFFFFFFFF, 0, 31);
     run_recipe_one("width\t2\nup\t1\n", open, 0xFFFFFFFE, 1, 0);
 }
 

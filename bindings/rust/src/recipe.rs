@@ -231,7 +231,8 @@ pub fn print(width: u8, listing: &Listing) -> String {
     printed(|out| sys::listing_print(width, listing.words(), out))
 }
 
-/// What the program `recipe` prints for a text: the listing, or `refused`, number, line and column.
+/// What the program `recipe` prints for a text that it reads whole, of at most 1,024 bytes: the listing, or `refused`, number, line
+/// and column. A longer text is read whole here.
 ///
 /// ```
 /// assert_eq!(gromavelush::answer(b"width\t1\n"), "width\t1\t0\nclocks\t0\n");

@@ -20,10 +20,11 @@ const SHOWN: usize = 60;
 
 const BEFORE: usize = 40;
 
-// A byte as one character.
+// A byte as one character. A `>` that was typed is no tab, so it is not shown as one.
 fn seen(b: u8) -> u8 {
     match b {
         TAB => b'>',
+        b'>' => b'?',
         32..=126 => b,
         _ => b'?',
     }
@@ -86,7 +87,7 @@ fn put_shown(out: &mut [u8], at: usize, refused: Refused, row: &[u8]) -> usize {
     put_line(out, next, mark_below(below))
 }
 
-// What to do: line k of this text, from 0, is said of refusal k. It has `LINES_MAX` and `TEXT_MAX` in words.
+// What to do: line k of this text, from 0, is said of refusal k. It has `LINES_MAX` and `TEXT_MAX` written out.
 fn advice(number: u8) -> Pen {
     let all = b"\n\n\n\n\
         Make the first line the word width, one tab and 1, 2 or 4, with nothing but a line end behind.\n\

@@ -131,7 +131,7 @@ pub fn listing_print(width: u8, listing: &[u64], out: &mut [u8]) -> usize
     print(width, steps_of(listing), listing.len(), out)
 }
 
-// What the program `recipe` prints for a text.
+// What the program `recipe` prints for the text that it read.
 pub fn recipe_answer(text: &[u8], out: &mut [u8]) -> usize
     ensures { λ r. ⌜ written (now (out .exit)) r ≡ writing (now (out .entry)) 0 (answerOf (now (text .entry))) ⌝ }
 {

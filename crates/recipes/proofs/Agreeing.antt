@@ -40,7 +40,7 @@ lineIn : Line → LineRead → Line
 lineIn other (Read l) = l
 lineIn other (Slip k c) = other
 
-pub no-read : {k : Refusal} {c : ℕ} {m : Line} → Slip k c ≡ Read m → ⊥
+no-read : {k : Refusal} {c : ℕ} {m : Line} → Slip k c ≡ Read m → ⊥
 unfolding isRead
 no-read e = false≢true (ap isRead e)
 

@@ -13,7 +13,7 @@ use lib.ListN.{length, getD, length-append}
 use Rattle.recipes.specs.declared.types.Verb.{Verb}
 use Rattle.recipes.specs.declared.types.Line.{Line}
 use Rattle.recipes.specs.declared.types.Refusal.{Refusal}
-use Rattle.recipes.specs.declared.types.Refusal.the-variants.{Nothing, WidthLine, NoSuchNumber, OntoItself, TooManyLines, UnknownVerb, WrongFields, NotADigit, NoNewline}
+use Rattle.recipes.specs.declared.types.Refusal.the-variants.{Nothing, WidthLine, NoSuchNumber, OntoItself, TooManyLines, WrongFields, NotADigit, NoNewline}
 use Rattle.recipes.specs.declared.types.Refused.{Refused}
 use Rattle.recipes.specs.declared.reader.LineRead.{LineRead}
 use Rattle.recipes.specs.declared.reader.LineRead.the-variants.{Read, Slip}
@@ -48,7 +48,7 @@ past-first f = omega arith
 
 -- ---- a line
 
--- a refusal k at column c, in a line of `len` bytes
+-- a refusal k at column c, in a line of `len` bytes that has its byte 10: a column exactly if it is 11 to 13, and never 14
 pub record Slipped (len : ℕ) (k : Refusal) (c : ℕ) : Type 0 where
   pub some : passes k ≡ false
   pub told : ltb 0 c ≡ leb 11 (numberOf k)
@@ -123,6 +123,7 @@ line-slips n row =
 -- it; 14 says that the row is the last, and points past it
 pub record Points (first : ℕ) (rows : List (List ℕ)) (r : Refused) : Type 0 where
   pub index : ℕ
+  pub among : index < length rows
   pub line : r .line ≡ first + index
   pub told : ltb 0 (r .column) ≡ leb 11 (numberOf (r .refusal))
   pub within : r .column ≤ length (getD rows index []) + 1
@@ -137,6 +138,7 @@ here first row rows k c s = (
   λ e. absurd (false≢true (sym (s .some) ∙ e)),
   λ e. record {
     index = 0;
+    among = omega arith;
     line = omega arith;
     told = s .told;
     within = omega (arith, s .within);
@@ -150,6 +152,7 @@ later first next row rows r is t = (
   t .0,
   λ e. let p = t .1 e in record {
     index = suc (p .index);
+    among = omega (arith, p .among);
     line = omega (arith, p .line);
     told = p .told;
     within = p .within;
@@ -174,6 +177,7 @@ lines-told w ls (x ∷ xs) [] = go (eqb (length ls) linesMax)
       λ e. absurd (false≢true e),
       λ e. record {
         index = 0;
+        among = omega arith;
         line = omega arith;
         told = lt-ltb 0 (past 0 (x ∷ xs)) (omega arith);
         within = omega arith;

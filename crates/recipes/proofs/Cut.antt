@@ -1,11 +1,11 @@
 -- Document 01: the program "reads at most the first 1,024 bytes of standard input (a longer text meets its refusal within them)". Assumes nothing.
 -- Document 02, item 1: the text is then those bytes, and a line that is cut has no byte 10.
 --     read-refused   a text of 340 bytes or more is refused, on the same line whatever follows
---     cut-line       so the first `textMax` bytes of a text are refused on the line that the text is
---     cut-reads      and read as the text is, unless they are refused with 14; cut-answers: and answered
---     cut-slips      and where they are, the text is refused with one of 11 to 14
---     long-refused   a longer text is refused
-use Prim.Native.Nat.{ℕ, suc, _+_, _*_, _/_, _≤_, _<_}
+--     cut-refused    so the first `textMax` bytes of a longer text are refused, and long-refused: the text is too
+--     cut-line       on the same line
+--     cut-reads      they are read as the text is, unless they are refused with 14; cut-answers: and answered
+--     cut-slips      where they are, the text is refused with one of 11 to 14
+use Prim.Native.Nat.{ℕ, _+_, _*_, _/_, _≤_, _<_}
 use mathlib.Core.Bool.{Bool, true, false, cond, and-false, false≢true}
 use mathlib.Core.List.{List, [], _∷_, _++_, append-nil}
 use mathlib.Core.Logic.{_⊎_, inl, inr, ⊎-elim}
@@ -95,7 +95,7 @@ long-one (f ∷ []) h = long-digit f (omega arith)
 long-one (f ∷ g ∷ more) h = refl
 
 -- one of 11 to 14
-abbrev named : Refusal → Bool
+abbrev pub named : Refusal → Bool
 named k = leb 11 (numberOf k)
 
 abbrev Misread : LineRead → Type 0
@@ -266,10 +266,10 @@ read-refused p h =
 
 -- a text and its first `textMax` bytes
 module _ (text : List ℕ) where
-  abbrev cut : Reading
+  abbrev pub cut : Reading
   cut = readOf (take textMax text)
 
-  -- what is so of every two readings of which the first is met and one text goes on, and of a reading and itself, is so of these
+  -- P holds of the two if it holds of a reading and itself, and of a met text and that text with more behind it
   by-cut : (P : Reading → Reading → Type 0) → P (readOf text) (readOf text)
       → ((read : List ℕ → Reading) → Met read → (s : List ℕ) → P (read []) (read s)) → P cut (readOf text)
   by-cut P one two = ⊎-elim (λ l. subst⁻¹ (λ (t : List ℕ). P (readOf t) (readOf text)) (take-all textMax text l) one) more (or-less (length text) textMax)
@@ -281,21 +281,26 @@ module _ (text : List ℕ) where
           (subst (λ (t : List ℕ). P (readOf (take textMax text ++ [])) (readOf t)) (take-append-drop textMax text)
           (two (λ s. readOf (take textMax text ++ s)) m (drop textMax text)))
 
-  -- they are refused on the same line
+  -- where there is more, both are refused
+  pub long-refused : textMax < length text → isNothing (readOf text .refused) ≡ false
+  long-refused h = subst (λ (t : List ℕ). isNothing (readOf t .refused) ≡ false) (append-nil text) (read-refused text (omega arith) .some [])
+
+  pub cut-refused : textMax < length text → isNothing (cut .refused) ≡ false
+  cut-refused h =
+      subst (λ (t : List ℕ). isNothing (readOf t .refused) ≡ false) (append-nil (take textMax text))
+      (read-refused (take textMax text) (omega (arith, length-take textMax text)) .some [])
+
+  -- on the same line
   pub cut-line : cut .refused .line ≡ readOf text .refused .line
   cut-line = by-cut (λ c r. c .refused .line ≡ r .refused .line) refl (λ read m s. m .lines [] ∙ sym (m .lines s))
 
-  -- and read as one unless the cut line has no byte 10
+  -- they are read as one, unless the cut line has no byte 10
   pub cut-reads : (numberOf (cut .refused .refusal) ≡ 14 → ⊥) → cut ≡ readOf text
   cut-reads = by-cut (λ c r. (numberOf (c .refused .refusal) ≡ 14 → ⊥) → c ≡ r) (λ apart. refl) (λ read m s apart. sym (m .same apart s))
 
   -- then the whole has one of 11 to 14
   pub cut-slips : numberOf (cut .refused .refusal) ≡ 14 → named (readOf text .refused .refusal) ≡ true
   cut-slips = by-cut (λ c r. numberOf (c .refused .refusal) ≡ 14 → named (r .refused .refusal) ≡ true) (λ is. ap (leb 11) is) (λ read m s is. m .slips is s)
-
-  -- a longer text is refused
-  pub long-refused : textMax < length text → isNothing (readOf text .refused) ≡ false
-  long-refused h = subst (λ (t : List ℕ). isNothing (readOf t .refused) ≡ false) (append-nil text) (read-refused text (omega arith) .some [])
 
   -- so the program, which reads no more than `textMax` bytes, prints what the whole text is answered with, unless it prints 14
   pub cut-answers : (numberOf (cut .refused .refusal) ≡ 14 → ⊥) → answerOf (take textMax text) ≡ answerOf text

@@ -28,7 +28,6 @@ use Rattle.recipes.specs.Listing.{translated, translateOf}
 use Rattle.recipes.specs.Printer.{stepText, listingText, refusalText, printedOf, answerOf}
 use Rattle.recipes.specs.Demand.{textRunOf}
 use Rattle.recipes.proofs.types.number.Reads as number
-use Rattle.recipes.proofs.types.at_column.Reads as at-column
 use Rattle.recipes.proofs.types.at_line.Reads as at-line
 use Rattle.recipes.proofs.types.is_nothing.Reads as is-nothing
 use Rattle.recipes.proofs.lines.target.Reads as target
@@ -45,7 +44,7 @@ use Rattle.recipes.proofs.runner.run_text as run-text
 
 pub determined : List Fixed
 determined =
-    fixed number.Learnt (one-equation _) ∷ fixed at-column.Learnt (one-equation _) ∷ fixed at-line.Learnt (one-equation _) ∷ fixed is-nothing.Learnt (one-equation _) ∷
+    fixed number.Learnt (one-equation _) ∷ fixed at-line.Learnt (one-equation _) ∷ fixed is-nothing.Learnt (one-equation _) ∷
     fixed target.Learnt (one-equation _) ∷ fixed translate-array.Learnt (one-equation _) ∷ fixed run-recipe.Learnt (one-equation _) ∷ []
 
 abbrev toldIn : Listing → Translated

@@ -114,7 +114,7 @@ printedOf r = listingPrinted (r .width) (translateOf r blanks)
 abbrev pub readingPrinted : Reading → List ℕ
 readingPrinted r = cond (isNothing (r .refused)) (printedOf (r .recipe)) (refusalText (r .refused))
 
--- what the program prints for a text
+-- what the program prints for the text that it read
 unfoldable pub answerOf : List ℕ → List ℕ
 answerOf text = readingPrinted (readOf text)
 

@@ -70,8 +70,8 @@ withTwo v c d (Is a) (Is b) = Read (record { verb = v; a = a; b = b })
 withTwo v c d (Is a) Bad = Slip NotADigit d
 withTwo v c d Bad e = Slip NotADigit c
 
--- a verb that takes one number, and one that takes two, with the fields behind it, whose tab (or byte 10) has the column `at`: 12 at the early byte 10, or at
--- the first field too many
+-- a verb that takes one number, and one that takes two, with the fields behind it; the tab or byte 10 behind the verb has the column `at`. 12 is at the early
+-- byte 10, or at the first field too many
 abbrev pub oneField : Verb → (at : ℕ) → List (List ℕ) → LineRead
 oneField v at [] = Slip WrongFields at
 oneField v at (f ∷ []) = withOne v (at + 1) (digitOf f)
@@ -106,7 +106,7 @@ abbrev pub orSlip : LineRead → (line : ℕ) → (Line → Reading) → Reading
 orSlip (Slip k c) line go = refusedAt k line c
 orSlip (Read l) line go = go l
 
--- what stands behind the last byte 10: nothing, or a line that lacks its byte 10, which is 14 at the place past the text
+-- what stands behind the last byte 10: nothing, or a line that lacks its byte 10, which is 14 at the column where that would stand, past the text
 abbrev pub endOf : (w : ℕ) → List Line → List ℕ → Reading
 endOf w ls [] = accepted w ls
 endOf w ls (x ∷ xs) =

@@ -6,7 +6,7 @@ ghost use lib.ListN.{take};
 ghost use Rattle.text.specs.Text.{before};
 ghost use Rattle.text.specs.Wrote.{written, writing, Wrote};
 ghost use Rattle.recipes.specs.Making.{operandText};
-ghost use Rattle.recipes.specs.Printer.{operationText, sizeText, registerText, countText, sourceText, destinationText, stepText, stepsText, fieldOf, newline};
+ghost use Rattle.recipes.specs.Printer.{operationText, sizeText, registerText, countText, sourceText, destinationText, stepText, stepsText, fieldOf};
 ghost use Rattle.recipes.specs.Printer.{listingText, refusalText};
 use super::translator::clocks;
 use super::types::Refused;

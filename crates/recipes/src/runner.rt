@@ -117,7 +117,7 @@ pub fn print_recipe(recipe: Recipe, out: &mut [u8]) -> usize
     }
 }
 
-// What the program `recipe` prints for a text.
+// What the program `recipe` prints for the text that it read.
 pub fn answer(text: &[u8], out: &mut [u8]) -> usize
     ensures { λ r. ⌜ written (now (out .exit)) r ≡ writing (now (out .entry)) 0 (answerOf (now (text .entry))) ⌝ }
 {

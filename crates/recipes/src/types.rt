@@ -123,7 +123,7 @@ pub fn number(refusal: Refusal) -> u8
 }
 
 // Every refusal is made here.
-pub fn at_column(refusal: Refusal, line: usize, column: usize) -> Refused
+pub(crate) fn at_column(refusal: Refusal, line: usize, column: usize) -> Refused
     ensures { λ r. ⌜ r ≡ atColumn refusal line column ⌝ }
 {
     Refused {
@@ -146,13 +146,14 @@ pub(crate) fn no_refusal() -> Refused
     at_line(Refusal::Nothing, 0)
 }
 
-// Whether nothing is refused.
+// Whether it is no refusal.
 pub(crate) fn passes(refusal: Refusal) -> bool
     ensures { λ r. ⌜ r ≡ passes refusal ⌝ }
 {
     number(refusal) == 0
 }
 
+// Whether nothing is refused.
 pub fn is_nothing(refused: Refused) -> bool
     ensures { λ r. ⌜ r ≡ isNothing refused ⌝ }
 {
