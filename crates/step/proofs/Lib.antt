@@ -8,3 +8,4 @@ mod Running
 mod Stepping
 pub mod Numbers
 pub mod Determined
+pub mod Walks
