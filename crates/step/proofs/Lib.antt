@@ -4,6 +4,8 @@ pub mod Sound
 pub mod Promises
 pub mod Leading
 pub mod Resumed
+pub mod Rows
+pub mod Boxes
 mod Running
 mod Stepping
 pub mod Numbers

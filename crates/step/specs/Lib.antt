@@ -5,4 +5,5 @@ pub mod Perform
 pub mod Run
 pub mod Lent
 pub mod Parts
+pub mod Rack
 pub mod Course

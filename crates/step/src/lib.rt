@@ -5,6 +5,7 @@
 // `store` and `lesser` by the library's `getD`, `set` and `min`). Nothing is assumed.
 pub mod forms;
 pub mod lent;
+pub mod racks;
 pub mod registers;
 pub mod runs;
 pub mod steps;
