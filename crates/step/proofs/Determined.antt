@@ -28,6 +28,7 @@ use Rattle.step.specs.declared.lent.Told.{Told}
 use Rattle.step.specs.Perform.{performOf}
 use Rattle.step.specs.Run.{runOf}
 use Rattle.step.specs.Lent.{performed}
+use Rattle.step.specs.Rack.{Rack, left, rackOf}
 use Rattle.step.proofs.forms.operation_of.Reads as operation-of
 use Rattle.step.proofs.forms.operation_at.Reads as operation-at
 use Rattle.step.proofs.forms.number.Reads as operation-number
@@ -38,6 +39,9 @@ use Rattle.step.proofs.runs.run_array.Reads as run-array
 use Rattle.step.proofs.runs.begun.Reads as begun
 use Rattle.step.proofs.runs.resumed.Reads as resumed
 use Rattle.step.proofs.runs.lesser.Reads as lesser
+use Rattle.step.proofs.racks.number.Reads as fit-number
+use Rattle.step.proofs.racks.plan.Reads as plan
+use Rattle.step.proofs.racks.rack as rack
 use Rattle.step.proofs.lent.perform_in as perform-in
 use Rattle.step.proofs.lent.run as run
 use Rattle.step.proofs.lent.fetch as fetch
@@ -54,7 +58,9 @@ determined =
     fixed run-array.Learnt (one-equation _) ∷
     fixed begun.Learnt (one-equation _) ∷
     fixed resumed.Learnt (one-equation _) ∷
-    fixed lesser.Learnt (one-equation _) ∷ []
+    fixed lesser.Learnt (one-equation _) ∷
+    fixed fit-number.Learnt (one-equation _) ∷
+    fixed plan.Learnt (one-equation _) ∷ []
 
 -- `whole r ws`: of the result r and of the last values ws behind all references that the function may write through
 module _ {M : Type 1} (𝓤 : URA M) (T : Ended) (κs : Lfts (T .signature .lifetimes)) (a : Args (T .signature) κs) {Whole : Type 0}
@@ -91,4 +97,13 @@ module _ {M : Type 1} (𝓤 : URA M) (H : Heap 𝓤) (A : Atoms 𝓤) (mem : Mem
     of = set (now (a .0)) (a .1 .0) (a .1 .1 .0);
     is = λ r ws. refl;
     all = λ r r′ ws ws′ e. (refl, ap (λ (l : List Step). (l, (tt, (tt, tt)))) e);
+  }
+
+module _ {M : Type 1} (𝓤 : URA M) (H : Heap 𝓤) (A : Atoms 𝓤) (mem : Memory → SProp 𝓤) (go : Routine → Fun 𝓤) (κs : Lfts 4) where
+  -- the listing and the start places are only read
+  pub rack-determined : (a : Args rack.signature κs) → OneExit 𝓤 rack.ended κs a (λ r ws. left r (ws .1 .0) (ws .1 .1 .1 .1 .0)) (rack.clauses 𝓤 H A mem go κs a .ensures tt)
+  rack-determined a = record {
+    of = rackOf performOf (now (a .0)) (now (a .1 .0)) (now (a .1 .1 .0)) (a .1 .1 .1 .0) (now (a .1 .1 .1 .1 .0));
+    is = λ r ws. refl;
+    all = λ r r′ ws ws′ e. (ap (λ (k : Rack). k .racked) e, ap (λ (k : Rack). (tt, (k .sets, (tt, (tt, (k .answers, tt)))))) e);
   }
