@@ -14,7 +14,7 @@ use Rattle.alu.specs.declared.types.Size.the-variants.{Byte}
 use Rattle.step.specs.declared.forms.TwoOp.the-variants.{Add}
 use Rattle.step.specs.declared.forms.Form.the-variants.{Two}
 use Rattle.step.specs.declared.forms.Step.{Step}
-use Rattle.recipes.specs.Listing.{over}
+use Rattle.step.specs.Lent.{over}
 
 map-snoc : {A B : Type 0} (f : A → B) (l : List A) (a : A) → map f (l ++ (a ∷ [])) ≡ map f l ++ (f a ∷ [])
 map-snoc f [] a = refl
@@ -28,22 +28,11 @@ turned f rs l i d e h k =
     rw next (take-suc-set rs i (f (getD l i d)) h ∙ rw (e, take-suc l i d k, map-snoc f (take i l) (getD l i d)))
 
 pub put :
-    {A : Type 0} (f : A → ℕ) (old : List ℕ) (l : List A) (i : ℕ) (d : A) →
+    {A B : Type 0} (f : A → B) (old : List B) (l : List A) (i : ℕ) (d : A) →
     i < length l → i < length old → set (over (map f (take i l)) old) i (f (getD l i d)) ≡ over (map f (take (i + 1) l)) old
 put f old l i d h k =
     let next : i + 1 ≡ suc i = omega arith in
-    let front : length (map f (take i l)) ≡ i = length-map (take i l) f ∙ length-take-le i l (omega arith) in
-    let more : length (map f (take (suc i) l)) ≡ suc i = length-map (take (suc i) l) f ∙ length-take-le (suc i) l h in
-    rw (
-      next,
-      front,
-      more,
-      drop-cons old i 0 k,
-      set-at (map f (take i l)) (getD old i 0) (drop (suc i) old) (f (getD l i d)) i front,
-      take-suc l i d h,
-      map-snoc f (take i l) (getD l i d),
-      append-assoc,
-    )
+    rw (next, ← take-map f i l, ← take-map f (suc i) l, ← List·getD-map f l i d) (over-next (map f l) old i (f d) (omega (arith, length-map l f)) k)
 
 -- what a loop's place past the end of its array would hold
 abbrev pub nop : Step

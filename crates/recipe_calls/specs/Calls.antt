@@ -18,7 +18,8 @@ use Rattle.recipes.specs.declared.types.Codes.the-variants.{Open, Known}
 use Rattle.recipes.specs.declared.types.RecipeRun.{RecipeRun}
 use Rattle.recipes.specs.Recipe.{numberOf, isNothing}
 use Rattle.recipes.specs.Reader.{readOf}
-use Rattle.recipes.specs.Listing.{over, blank, listed, translateOf}
+use Rattle.step.specs.Lent.{over}
+use Rattle.recipes.specs.Listing.{blank, listed, translateOf}
 use Rattle.recipes.specs.Demand.{textRunOf}
 use Rattle.recipe_calls.specs.Words.{firstOf, stepWord}
 

@@ -3,7 +3,7 @@ ghost use mathlib.Core.Path.{_≡_};
 ghost use mathlib.Core.List.{map};
 ghost use Prim.Native.Nat.{_≤_};
 ghost use lib.ListN.{length, take};
-ghost use Rattle.recipes.specs.Listing.{over};
+ghost use Rattle.step.specs.Lent.{over};
 ghost use Rattle.recipe_calls.specs.Words.{stepWord, firstOf};
 use super::words::no_step;
 use super::words::step_of;

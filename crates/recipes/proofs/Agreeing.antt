@@ -26,7 +26,8 @@ use Rattle.text.specs.declared.types.Digit.the-variants.{Is, Bad}
 use Rattle.text.specs.Text.{ascii, sameBytes, before, after}
 use Rattle.recipes.specs.Recipe.{linesMax, passes, atLine, noRefusal, isNothing, isWidth, recipeLines, unused, lineRefusal, Names, Accepted}
 use Rattle.recipes.specs.Reader.{refusedAt, verbOf, past, onlyDigit, fieldsOf, lineChecked, thenChecked, lineOf, orSlip, linesOf, widthDigit, widthLine, fromFirst, readOf}
-use Rattle.recipes.specs.Listing.{linesPass, tested, listingOf, stepsOf, over, listed, translateOf}
+use Rattle.step.specs.Lent.{over}
+use Rattle.recipes.specs.Listing.{linesPass, tested, listingOf, stepsOf, listed, translateOf}
 use Rattle.recipes.proofs.Accepting.{Good, passes-names, names-pass, tests-agree}
 use Rattle.recipes.proofs.Columns.{Slips, line-slips}
 

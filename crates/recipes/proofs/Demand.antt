@@ -35,7 +35,8 @@ use Rattle.recipes.specs.declared.types.Codes.{Codes}
 use Rattle.recipes.specs.declared.types.Codes.the-variants.{Known}
 use Rattle.recipes.specs.Recipe.{isNothing, isWidth, target, recipeLines, Names, Accepted}
 use Rattle.recipes.specs.Reader.{readOf}
-use Rattle.recipes.specs.Listing.{stepsMax, lineSteps, listingOf, stepsAt, stepsOf, over, translated, translateOf, clocksOf}
+use Rattle.step.specs.Lent.{over}
+use Rattle.recipes.specs.Listing.{stepsMax, lineSteps, listingOf, stepsAt, stepsOf, translated, translateOf, clocksOf}
 use Rattle.recipes.specs.Rule.{numbersOf, registersOf, codesOf, Account, accountOf, ruleOf, rulesOf}
 use Rattle.recipes.specs.Demand.{EightLongs, Holds, Ruled, Meets, Finishes, Demand3, HaltedBehind, CalledOneByOne, FromText}
 use Rattle.recipes.proofs.Steps.{line-length, listing-steps}

@@ -8,24 +8,14 @@ use lib.ListN.{length, take, drop, getD, set, length-replicate}
 use lib.Seq.{drop-cons, take-suc, set-at, length-take-le}
 use Rattle.step.specs.declared.forms.Step.{Step}
 use Rattle.step.specs.Run.{arraySlots}
+use Rattle.step.specs.Lent.{over}
+use Rattle.step.proofs.Rows.{over-next}
 use Rattle.recipes.specs.declared.types.Line.{Line}
 use Rattle.recipes.specs.Recipe.{unused, Names, Accepted}
-use Rattle.recipes.specs.Listing.{lineSteps, listingOf, stepsAt, stepsOf, over, blank, blanks}
+use Rattle.recipes.specs.Listing.{lineSteps, listingOf, stepsAt, stepsOf, blank, blanks}
 use Rattle.recipes.specs.Making.{Layable, jobOf, StepOfJob}
 use Rattle.recipes.proofs.Steps.{listing-steps, steps-at-most, steps-more, steps-prefix}
 use Rattle.recipes.proofs.Places.{listing-at, number-fits}
-
--- one more step over a row
-over-next : (new old : List Step) (at : ℕ) → at < length new → at < length old → set (over (take at new) old) at (getD new at blank) ≡ over (take (suc at) new) old
-over-next new old at h k =
-    rw (
-      length-take-le at new (omega arith),
-      length-take-le (suc at) new h,
-      drop-cons old at blank k,
-      set-at (take at new) (getD old at blank) (drop (suc at) old) (getD new at blank) at (length-take-le at new (omega arith)),
-      take-suc new at blank h,
-      append-assoc,
-    )
 
 accepted-at : (w : ℕ) (ls : List Line) (n k : ℕ) → Accepted w (take n ls) → k < n → k < length ls → Names (8 / w) (getD ls k unused)
 accepted-at w [] n k a h l = absurd (omega arith)
@@ -103,7 +93,7 @@ module _ (w count : ℕ) (lines : List Line) (steps : List Step) (k j at : ℕ) 
       let c = s .ready .counted in
       let d = s .ready .within in
       let slots : length blanks ≡ arraySlots = length-replicate arraySlots blank in
-      rw (s .placed, listing-at w lines k j line-there (here .step), ← here .place, one) (over-next (listingOf w lines) blanks at (omega arith) (omega arith))
+      rw (s .placed, listing-at w lines k j line-there (here .step), ← here .place, one) (over-next (listingOf w lines) blanks at blank (omega arith) (omega arith))
 
   -- a step of the same line comes next
   pub laid-step : (j + 1 ≡ stepsAt (getD lines k unused .verb) * w → ⊥) → Laid w count lines (set steps at (getD (lineSteps w (getD lines k unused)) j blank)) k (j + 1) (at + 1)

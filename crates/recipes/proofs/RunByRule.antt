@@ -28,7 +28,8 @@ use Rattle.recipes.specs.declared.types.Codes.the-variants.{Known}
 use Rattle.recipes.specs.declared.types.RecipeRun.{RecipeRun}
 use Rattle.recipes.specs.Recipe.{noRefusal, isNothing, unused, recipeLines}
 use Rattle.recipes.specs.Reader.{readOf}
-use Rattle.recipes.specs.Listing.{stepsMax, listingOf, stepsOf, over, listed, translateOf, blanks}
+use Rattle.step.specs.Lent.{over}
+use Rattle.recipes.specs.Listing.{stepsMax, listingOf, stepsOf, listed, translateOf, blanks}
 use Rattle.recipes.specs.Rule.{codesOf, Account, accountOf, ruleOf, rulesOf}
 use Rattle.recipes.specs.Demand.{EightLongs, Holds, Meets, ranByRule, untouched, recipeRunOf, textRunOf}
 use Rattle.recipes.specs.Making.{codesBehind, codesAfter}

@@ -24,7 +24,8 @@ use Rattle.recipes.specs.declared.types.Refusal.the-variants.{NoSpace}
 use Rattle.recipes.specs.declared.types.Translated.{Translated}
 use Rattle.recipes.specs.declared.types.Listing.{Listing}
 use Rattle.recipes.specs.Recipe.{linesMax, atLine, noRefusal, recipeLines, Accepted}
-use Rattle.recipes.specs.Listing.{stepsMax, listingOf, stepsOf, over, listed, translateOf, translated, blanks}
+use Rattle.step.specs.Lent.{over}
+use Rattle.recipes.specs.Listing.{stepsMax, listingOf, stepsOf, listed, translateOf, translated, blanks}
 use Rattle.recipes.specs.Making.{translation, noSteps, judgeOf, Layable, settledOf}
 use Rattle.recipes.proofs.Steps.{listing-steps, listing-prefix, steps-most}
 use Rattle.recipes.proofs.Accepting.{width-is, tests-agree}

@@ -3,7 +3,7 @@ use Prim.Native.Nat.{ℕ, zero, suc, _+_, _*_, _/_}
 use mathlib.Core.Bool.{Bool, false, cond}
 use mathlib.Core.List.{List, [], _∷_, _++_}
 use lib.Dec.{leb}
-use lib.ListN.{length, drop, replicate}
+use lib.ListN.{length, replicate}
 use Rattle.alu.specs.declared.types.Size.the-variants.{Long}
 use Rattle.step.specs.declared.registers.State.{State}
 use Rattle.step.specs.declared.forms.OneOp.the-variants.{Clr}
@@ -13,6 +13,7 @@ use Rattle.step.specs.declared.forms.Form.the-variants as Form
 use Rattle.step.specs.declared.forms.Step.{Step}
 use Rattle.step.specs.Perform.{performOf}
 use Rattle.step.specs.Run.{arraySlots}
+use Rattle.step.specs.Lent.{over}
 use Rattle.recipes.specs.declared.types.Verb.{Verb}
 use Rattle.recipes.specs.declared.types.Line.{Line}
 use Rattle.recipes.specs.declared.types.Recipe.{Recipe}
@@ -130,10 +131,6 @@ module _ {R : Type 0} (refuse : Refused → R) where
       (refuse (atLine WidthLine 1))
 
 -- ---- the translation, into a row of slots
-
--- a row written to the front of another: what is past it stays
-abbrev pub over : {A : Type 0} → (new old : List A) → List A
-over new old = new ++ drop (length new) old
 
 -- (a `Listing` here has a row of any length; that of the code has `arraySlots`)
 abbrev pub listed : Refused → (count : ℕ) → List Step → Listing

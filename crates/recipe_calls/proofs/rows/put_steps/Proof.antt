@@ -4,7 +4,7 @@ use Prim.Native.Nat.{ℕ, _-_, _<_, _≤_}
 use mathlib.Core.List.{List, map}
 use lib.ListN.{length, take, set, length-set}
 use Rattle.recipes.proofs.Steps.{mapped}
-use Rattle.recipes.specs.Listing.{over}
+use Rattle.step.specs.Lent.{over}
 use Rattle.recipe_calls.specs.Words.{stepWord}
 use Rattle.recipe_calls.proofs.Turns.{put, taken, nop}
 use borrow.Author.Needs.{needs}
