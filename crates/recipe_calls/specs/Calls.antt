@@ -1,8 +1,8 @@
 -- What the functions for Rust and C leave behind: the rows that they are lent, and what they tell, in a row of eight numbers. Assumes nothing.
-use Prim.Native.Nat.{ℕ, _*_}
+use Prim.Native.Nat.{ℕ, _*_, _/_, min}
 use mathlib.Core.Bool.{Bool, cond}
 use mathlib.Core.List.{List, [], _∷_, _++_, map}
-use lib.ListN.{length, take, replicate}
+use lib.ListN.{length, take, drop, replicate}
 use Rattle.alu.specs.Bits.{digit}
 use Rattle.alu.specs.ConditionCodes.{flagsOf, ccrOf}
 use Rattle.step.specs.declared.registers.State.{State}
@@ -10,6 +10,8 @@ use Rattle.step.specs.declared.forms.Step.{Step}
 use Rattle.step.specs.declared.runs.Ran.{Ran}
 use Rattle.step.specs.Perform.{performOf}
 use Rattle.step.specs.Run.{runOf, endNumbers}
+use Rattle.step.specs.declared.racks.Racked.{Racked}
+use Rattle.step.specs.Rack.{fitNumber, planOf, runsOf}
 use Rattle.recipes.specs.declared.types.Refused.{Refused}
 use Rattle.recipes.specs.declared.types.Reading.{Reading}
 use Rattle.recipes.specs.declared.types.Listing.{Listing}
@@ -65,11 +67,49 @@ translateWords text listing = listedIn listing (textListed (replicate (length li
 abbrev pub stateOf : (d a : List ℕ) → (flags : ℕ) → State
 stateOf d a flags = record { d = d; a = a; flags = flagsOf flags }
 
-abbrev pub ranTold : Ran → StateLeft
-ranTold r = stateLeft (r .state .d) (r .state .a) (ccrOf (r .state .flags)) (endNumbers (r .end) ++ (r .next ∷ r .steps ∷ r .clocks ∷ 0 ∷ 0 ∷ []))
+abbrev pub ranTold : Ran → List ℕ
+ranTold r = endNumbers (r .end) ++ (r .next ∷ r .steps ∷ r .clocks ∷ 0 ∷ 0 ∷ [])
+
+abbrev pub ranLeft : Ran → StateLeft
+ranLeft r = stateLeft (r .state .d) (r .state .a) (ccrOf (r .state .flags)) (ranTold r)
 
 abbrev pub runWords : (listing d a : List ℕ) → (flags start budget : ℕ) → StateLeft
-runWords listing d a flags start budget = ranTold (runOf performOf (firstOf listing) (stateOf d a flags) start budget)
+runWords listing d a flags start budget = ranLeft (runOf performOf (firstOf listing) (stateOf d a flags) start budget)
+
+-- ---- rack_run: of each box eight words of `d` and of `a`, its flags, and eight words of `answers`, as `listing_run` tells them; refusal number, number of boxes
+
+-- the words of box i
+abbrev pub eightAt : (i : ℕ) → List ℕ → List ℕ
+eightAt i row = take 8 (drop (8 * i) row)
+
+-- the register sets, one for each of the flags
+abbrev pub setsOf : (d a flags : List ℕ) → List State
+setsOf d a [] = []
+setsOf d a (f ∷ flags) = stateOf (take 8 d) (take 8 a) f ∷ setsOf (drop 8 d) (drop 8 a) flags
+
+-- what the runs leave, one behind the other
+abbrev pub joined : (Ran → List ℕ) → List Ran → List ℕ
+joined g [] = []
+joined g (r ∷ rs) = g r ++ joined g rs
+
+-- a rack's rows, and what is told
+pub record RackLeft : Type 0 where
+  pub d : List ℕ
+  pub a : List ℕ
+  pub flags : List ℕ
+  pub answers : List ℕ
+  pub told : List ℕ
+
+abbrev pub rackLeft : (d a flags answers told : List ℕ) → RackLeft
+rackLeft d a flags answers told = record { d = d; a = a; flags = flags; answers = answers; told = told }
+
+-- as a rack of the crate step; one is also refused whose row of registers is too short
+abbrev pub rackWords : (listing d a flags starts : List ℕ) → (budget : ℕ) → (answers : List ℕ) → RackLeft
+rackWords listing d a flags starts budget answers =
+    let plan = planOf (length flags) (length starts) (min (min (length d) (length a)) (length answers) / 8) in
+    let runs = runsOf performOf (firstOf listing) (take (plan .boxes) (setsOf d a flags)) starts budget in
+    rackLeft (over (joined (λ r. r .state .d) runs) d) (over (joined (λ r. r .state .a) runs) a) (over (map (λ r. ccrOf (r .state .flags)) runs) flags)
+    (over (joined ranTold runs) answers) (fitNumber (plan .fit) ∷ plan .boxes ∷ 0 ∷ 0 ∷ 0 ∷ 0 ∷ 0 ∷ 0 ∷ [])
 
 -- ---- recipe_run: the registers and flags; refusal number, text line, a mask of the flags that are promised, steps, clocks, column
 

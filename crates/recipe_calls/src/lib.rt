@@ -12,7 +12,7 @@ ghost use Rattle.step.specs.Run.{endNumbers};
 ghost use Rattle.text.specs.Wrote.{written, writing};
 ghost use Rattle.recipes.specs.Printer.{listingText, answerOf};
 ghost use Rattle.recipe_calls.specs.Words.{firstOf};
-ghost use Rattle.recipe_calls.specs.Calls.{rowLeft, stateLeft, translationTold, translateWords, runWords, promisedOf, ccrAfter, recipeRunWords};
+ghost use Rattle.recipe_calls.specs.Calls.{rowLeft, stateLeft, rackLeft, translationTold, translateWords, ranTold, runWords, rackWords, promisedOf, ccrAfter, recipeRunWords};
 use alu::types::ccr;
 use alu::types::flags_of;
 use recipes::printer::print;
@@ -26,10 +26,16 @@ use recipes::types::Refused;
 use recipes::types::at_line;
 use recipes::types::is_nothing;
 use recipes::types::number;
+use rows::eight_at;
+use rows::put_eight;
 use rows::put_steps;
+use rows::put_told;
 use rows::steps_of;
+use step::racks::plan;
 use step::registers::State;
 use step::runs::End;
+use step::runs::Ran;
+use step::runs::lesser;
 use step::runs::run_array;
 use step::steps::class;
 
@@ -82,6 +88,24 @@ fn end_numbers(end: End) -> [u64; 3]
     }
 }
 
+// What is told of a run: its end, the next place, the steps done and the sum of their figures.
+fn ran_told(ran: Ran) -> [u64; TOLD]
+    ensures { λ r. ⌜ r ≡ ranTold ran ⌝ }
+{
+    let ended = ran.end;
+    let end = end_numbers(ended);
+    [
+        end[0],
+        end[1],
+        end[2],
+        ran.next as u64,
+        ran.steps as u64,
+        ran.clocks,
+        0,
+        0,
+    ]
+}
+
 // Runs the first `SLOTS` steps of a listing from a place, with a budget. `told` gets the end, the trap's class or the refusal's
 // number, the place of either, the next place, the steps done and the sum of their figures.
 pub fn listing_run(
@@ -103,8 +127,6 @@ pub fn listing_run(
         flags: flags_of(*flags),
     };
     let ran = run_array(steps_of(listing), listing.len(), before, start, budget);
-    let ended = ran.end;
-    let end = end_numbers(ended);
     let after = ran.state;
     let after_d = after.d;
     let after_a = after.a;
@@ -112,16 +134,48 @@ pub fn listing_run(
     *d = after_d;
     *a = after_a;
     *flags = ccr(after_flags);
-    *told = [
-        end[0],
-        end[1],
-        end[2],
-        ran.next as u64,
-        ran.steps as u64,
-        ran.clocks,
-        0,
-        0,
-    ];
+    *told = ran_told(ran);
+}
+
+// Runs the first `SLOTS` steps of a listing on a rack of as many boxes as there are flags, each from its own start place and
+// with the whole budget. A box has eight words of `d`, of `a` and of `answers`, which gets what `listing_run` tells of it.
+// `told` gets the refusal number and how many boxes were run.
+pub fn rack_run(
+    listing: &[u64],
+    d: &mut [u32],
+    a: &mut [u32],
+    flags: &mut [u8],
+    starts: &[usize],
+    budget: u32,
+    answers: &mut [u64],
+    told: &mut [u64; TOLD],
+)
+    ensures { λ _. ⌜ rackLeft (now (d .exit)) (now (a .exit)) (now (flags .exit)) (now (answers .exit)) (now (told .exit)) ≡ rackWords (now (listing .entry)) (now (d .entry)) (now (a .entry)) (now (flags .entry)) (now (starts .entry)) budget (now (answers .entry)) ⌝ }
+{
+    let steps = steps_of(listing);
+    let words = lesser(lesser(d.len(), a.len()), answers.len());
+    let racked = plan(flags.len(), starts.len(), words / TOLD);
+    let mut i = 0;
+    while i < racked.boxes {
+        let before = State {
+            d: eight_at(d, i),
+            a: eight_at(a, i),
+            flags: flags_of(flags[i]),
+        };
+        let ran = run_array(steps, listing.len(), before, starts[i], budget);
+        let after = ran.state;
+        let after_d = after.d;
+        let after_a = after.a;
+        let after_flags = after.flags;
+        put_eight(d, i, after_d);
+        put_eight(a, i, after_a);
+        flags[i] = ccr(after_flags);
+        put_told(answers, i, ran_told(ran));
+        i += 1;
+    }
+    let fit = racked.fit;
+    let number = step::racks::number(fit) as u64;
+    *told = [number, racked.boxes as u64, 0, 0, 0, 0, 0, 0];
 }
 
 // Prints the first `SLOTS` steps of a listing, as the program `recipe` does, and answers how many bytes it wrote.

@@ -1,10 +1,12 @@
-// Rows of words: a listing's steps.
+// Rows of words: a listing's steps, and a rack's boxes, eight words to each.
 ghost use mathlib.Core.Path.{_≡_};
 ghost use mathlib.Core.List.{map};
-ghost use Prim.Native.Nat.{_≤_};
+ghost use Prim.Native.Nat.{_≤_, _*_, _+_};
 ghost use lib.ListN.{length, take};
+ghost use lib.Seq.{paste};
 ghost use Rattle.step.specs.Lent.{over};
 ghost use Rattle.recipe_calls.specs.Words.{stepWord, firstOf};
+ghost use Rattle.recipe_calls.specs.Calls.{eightAt};
 use super::words::no_step;
 use super::words::step_of;
 use super::words::step_word;
@@ -37,5 +39,49 @@ pub(crate) fn put_steps(steps: [Step; SLOTS], count: usize, listing: &mut [u64])
     while i < many {
         listing[i] = step_word(steps[i]);
         i += 1;
+    }
+}
+
+// Box i's words of a row of registers.
+pub(crate) fn eight_at(row: &[u32], i: usize) -> [u32; 8]
+    requires { ⌜ 8 * i + 8 ≤ length (now row) ⌝ }
+    ensures { λ r. ⌜ r ≡ eightAt i (now (row .entry)) ⌝ }
+{
+    let at = 8 * i;
+    [
+        row[at],
+        row[at + 1],
+        row[at + 2],
+        row[at + 3],
+        row[at + 4],
+        row[at + 5],
+        row[at + 6],
+        row[at + 7],
+    ]
+}
+
+// Box i's words are written.
+pub(crate) fn put_eight(row: &mut [u32], i: usize, words: [u32; 8])
+    requires { ⌜ 8 * i + 8 ≤ length (now row) ⌝ }
+    ensures { λ _. ⌜ now (row .exit) ≡ paste (now (row .entry)) (8 * i) words 8 ⌝ }
+{
+    let at = 8 * i;
+    let mut j = 0;
+    while j < 8 {
+        row[at + j] = words[j];
+        j += 1;
+    }
+}
+
+// And those of a row of what is told.
+pub(crate) fn put_told(row: &mut [u64], i: usize, words: [u64; 8])
+    requires { ⌜ 8 * i + 8 ≤ length (now row) ⌝ }
+    ensures { λ _. ⌜ now (row .exit) ≡ paste (now (row .entry)) (8 * i) words 8 ⌝ }
+{
+    let at = 8 * i;
+    let mut j = 0;
+    while j < 8 {
+        row[at + j] = words[j];
+        j += 1;
     }
 }

@@ -3,6 +3,7 @@
 --     demand-3           Demand3 of specs/Demand
 --     halted-behind      HaltedBehind: halted behind the steps of its first lines, the registers and flags are as those lines leave them
 --     one-by-one         CalledOneByOne: it holds for whoever calls the translator and the run one by one; from-text: and the reader before them
+--     each-box           EachBox: it holds for each box of a rack
 --     called-whole, called-halted   the same in the words of the contracts of `translate` and `run`
 --     steps-few          an accepted recipe has at most `stepsMax` steps
 --     meets-one          two runs that meet the rule and end alike are equal, once their flags are; `meets-x`: their X is; `meets-flags`: after add, sub and neg, all five
@@ -13,7 +14,7 @@ use mathlib.Core.List.{List, [], _∷_, _++_, append-nil}
 use Prim.Native.Nat.{ℕ, zero, suc, _+_, _-_, _*_, _/_, _≤_}
 use native.Mathlib.Omega.{arith}
 use native.Mathlib.Nat.{add-zero, zero-add, add-assoc}
-use lib.ListN.{length, set, take, drop, length-append}
+use lib.ListN.{length, set, take, drop, length-append, getD}
 use lib.Seq.{take-append-seam}
 use Rattle.alu.specs.declared.types.Flags.{Flags}
 use Rattle.step.specs.declared.registers.State.{State}
@@ -23,8 +24,10 @@ use Rattle.step.specs.declared.runs.End.the-variants.{Finished}
 use Rattle.step.specs.declared.runs.Ran.{Ran}
 use Rattle.step.specs.Perform.{performOf}
 use Rattle.step.specs.Run.{ends, runOf, after}
-use Rattle.step.specs.Parts.{goesOn, total}
+use Rattle.step.specs.Parts.{goesOn, runInParts, total}
+use Rattle.step.specs.Rack.{stateOf, boxInParts}
 use Rattle.step.proofs.Laws.{spot-end, run-end}
+use Rattle.step.proofs.Boxes.{plan-fitting, rack-parts}
 use Rattle.step.proofs.Promises.{Alu, Legal, Steps, performs}
 use Rattle.step.proofs.Leading.{All, executed, figures, Stands, stands-first, stands-left, stands-right, Leads, leads-none, leads-then, leads-like, leads-through, leads-in-parts, idle}
 use Rattle.recipes.specs.declared.types.Line.{Line}
@@ -38,7 +41,7 @@ use Rattle.recipes.specs.Reader.{readOf}
 use Rattle.step.specs.Lent.{over}
 use Rattle.recipes.specs.Listing.{stepsMax, lineSteps, listingOf, stepsAt, stepsOf, translated, translateOf, clocksOf}
 use Rattle.recipes.specs.Rule.{numbersOf, registersOf, codesOf, Account, accountOf, ruleOf, rulesOf}
-use Rattle.recipes.specs.Demand.{EightLongs, Holds, Ruled, Meets, Finishes, Demand3, HaltedBehind, CalledOneByOne, FromText}
+use Rattle.recipes.specs.Demand.{EightLongs, Holds, Ruled, Meets, Finishes, Demand3, HaltedBehind, CalledOneByOne, FromText, EachBox}
 use Rattle.recipes.proofs.Steps.{line-length, listing-steps}
 use Rattle.recipes.proofs.Accepting.{Good, width-all, width-is}
 use Rattle.recipes.proofs.Settling.{few-steps}
@@ -195,6 +198,16 @@ from-text text slots e room =
     let r = readOf text .recipe in
     let g = read-sound text e in
     ap (λ (t : Listing). isNothing (t .refused)) (good-translates r slots g (omega (arith, steps-few r g)))
+
+pub each-box : EachBox
+each-box w some ls ok sets starts answers fits i d inside longs first b bs enough =
+    let l = listingOf w ls in
+    let s = getD sets i (stateOf d) in
+    let whole = demand-3 w some ls ok s longs b bs enough in
+    let box : boxInParts performOf l d i sets starts answers b bs ≡ runInParts performOf l s 0 b bs =
+    rack-parts performOf l d i sets starts answers (d .next) b bs (plan-fitting (length sets) (length starts) (length answers) fits) inside
+    ∙ ap (λ (p : ℕ). runInParts performOf l s p b bs) first in
+    (whole .parts, subst⁻¹ (λ (r : Ran). (r .end ≡ Finished) × Meets w ls s r) box (whole .end, whole .meets))
 
 -- in the words of the contracts: t and `left` are what `translate` says and leaves, ran what `run` or `run_array` answers
 module _ (r : Recipe) (slots left : List Step) (t : Translated) (made : translated t left ≡ translateOf r slots) (fine : isNothing (t .refused) ≡ true) (s : State) (ok : EightLongs (s .d)) where

@@ -1,6 +1,6 @@
 -- Demand 3 (docs/PROMISES.md lists the three): any accepted recipe, run whole or halted after any step and continued, ends with each number and X exactly as document 01's rule says, after
 -- add, sub and neg with the flags of the whole number, address registers untouched, steps by document 01's formula. First what is promised of runs of the
--- listing (proved in proofs/Demand: `demand-3`, `halted-behind`, `one-by-one`, `from-text`), then what `run_recipe` and `run_text` answer. Assumes nothing.
+-- listing (proved in proofs/Demand: `demand-3`, `halted-behind`, `one-by-one`, `from-text`, `each-box`), then what `run_recipe` and `run_text` answer. Assumes nothing.
 use Prim.Native.Nat.{ℕ, _≤_, _<_}
 use mathlib.Core.Path.{_≡_}
 use mathlib.Core.Bool.{true, cond}
@@ -13,6 +13,9 @@ use Rattle.step.specs.declared.runs.End.the-variants.{Finished}
 use Rattle.step.specs.declared.runs.Ran.{Ran}
 use Rattle.step.specs.Perform.{performOf}
 use Rattle.step.specs.Parts.{goesOn, runInParts, PartsGo, total}
+use Rattle.step.specs.declared.racks.Boxed.{Boxed}
+use Rattle.step.specs.declared.racks.Fit.the-variants.{Fits}
+use Rattle.step.specs.Rack.{planOf, stateOf, boxInParts}
 use Rattle.recipes.specs.declared.types.Line.{Line}
 use Rattle.recipes.specs.declared.types.Recipe.{Recipe}
 use Rattle.recipes.specs.declared.types.Refused.{Refused}
@@ -89,6 +92,18 @@ CalledOneByOne =
 -- and a text that is read is accepted by the translator, wherever it has slots for the longest
 abbrev pub FromText : Type 0
 FromText = (text : List ℕ) (slots : List Step) → isNothing (readOf text .refused) ≡ true → stepsMax ≤ length slots → isNothing (translateOf (readOf text .recipe) slots .refused) ≡ true
+
+-- Document 02, item 2, "Demand 3 reads each box by itself": the recipe's listing on a rack that is not refused, with a budget b, and then with each of the
+-- budgets bs. A box that starts at the first place ends as demand 3 says of a run, whatever the other boxes hold and wherever they start. (d stands past
+-- the rows' ends.)
+abbrev pub EachBox : Type 0
+EachBox =
+    (w : ℕ) → 0 < w → (ls : List Line) → Accepted w ls → (sets : List State) (starts : List ℕ) (answers : List Boxed)
+    → planOf (length sets) (length starts) (length answers) .fit ≡ Fits → (i : ℕ) (d : Ran) → i < length sets
+    → let l = listingOf w ls in
+    let s = getD sets i (stateOf d) in
+    EightLongs (s .d) → getD starts i (d .next) ≡ 0 → (b : ℕ) (bs : List ℕ) → stepsOf w ls ≤ total b bs
+    → let r = boxInParts performOf l d i sets starts answers b bs in PartsGo performOf l s 0 b bs × ((r .end ≡ Finished) × Meets w ls s r)
 
 -- ---- what `run_recipe` and `run_text` answer
 

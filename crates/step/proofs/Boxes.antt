@@ -1,5 +1,6 @@
 -- What a rack leaves in its rows, over any step function f and any listing l.
---     plan-fits, plan-many, plan-short, plan-less   exactly when a rack is run
+--     plan-fits, plan-fitting          exactly when a rack is run
+--     plan-many, plan-short, plan-less   when it is refused: too many sets, too few start places, too few slots
 --     rack-refused   a refused rack changes nothing
 --     rack-run       all boxes of one that is not refused are run
 --     rack-box       each box is the single run on its set, whatever becomes of the others
@@ -22,11 +23,11 @@ use Rattle.step.specs.declared.steps.Performed.{Performed}
 use Rattle.step.specs.declared.runs.Ran.{Ran}
 use Rattle.step.specs.declared.racks.Boxed.{Boxed}
 use Rattle.step.specs.declared.racks.Racked.{Racked}
-use Rattle.step.specs.declared.racks.Fit.the-variants.{Fits}
+use Rattle.step.specs.declared.racks.Fit.the-variants.{Fits, TooMany}
 use Rattle.step.specs.Run.{after, runOf}
 use Rattle.step.specs.Lent.{over}
 use Rattle.step.specs.Parts.{runInParts}
-use Rattle.step.specs.Rack.{boxesMax, planOf, refusedRack, stateOf, boxedOf, Rack, left, runsOf, rackOf, ranBy, boxAt, nextOf, boxInParts}
+use Rattle.step.specs.Rack.{boxesMax, fitNumber, planOf, refusedRack, stateOf, boxedOf, Rack, left, runsOf, rackOf, ranBy, boxAt, nextOf, boxInParts}
 use Rattle.step.proofs.Rows.{over-length, over-next, over-before, over-past}
 
 -- ---- when a rack is run
@@ -36,9 +37,21 @@ pub record Fitting (sets starts answers : ℕ) : Type 0 where
   pub places : sets ≤ starts
   pub slots : sets ≤ answers
 
+never : {A : Type 0} → TooMany ≡ Fits → A
+never e = let z : _≡_ {A = ℕ} 15 0 = ap fitNumber e in absurd (omega arith)
+
 module _ (a b c : ℕ) where
   pub plan-fits : Fitting a b c → planOf a b c ≡ record { fit = Fits; boxes = a }
   plan-fits h = simp (le-leb a boxesMax (h .few), le-leb a b (h .places), le-leb a c (h .slots))
+
+  fitting-by : (t u v : Bool) → leb a boxesMax ≡ t → leb a b ≡ u → leb a c ≡ v → planOf a b c .fit ≡ Fits → Fitting a b c
+  fitting-by true true true p q r e = record { few = leb-true a boxesMax p; places = leb-true a b q; slots = leb-true a c r }
+  fitting-by true true false p q r e = never (rw (p, q, r) at e)
+  fitting-by true false v p q r e = never (rw (p, q) at e)
+  fitting-by false u v p q r e = never (rw p at e)
+
+  pub plan-fitting : planOf a b c .fit ≡ Fits → Fitting a b c
+  plan-fitting = fitting-by (leb a boxesMax) (leb a b) (leb a c) refl refl refl
 
   pub plan-many : boxesMax < a → planOf a b c ≡ refusedRack
   plan-many h = simp (lt-leb a boxesMax h)
