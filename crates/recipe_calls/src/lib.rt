@@ -8,11 +8,15 @@ mod rows;
 mod words;
 
 ghost use mathlib.Core.Path.{_≡_};
-ghost use Rattle.step.specs.Run.{endNumbers};
+ghost use Prim.Native.Nat.{_+_, _*_, _<_, _≤_};
+ghost use lib.ListN.{length, take};
+ghost use Rattle.step.specs.Perform.{performOf};
+ghost use Rattle.step.specs.Run.{runOf, endNumbers};
 ghost use Rattle.text.specs.Wrote.{written, writing};
 ghost use Rattle.recipes.specs.Printer.{listingText, answerOf};
 ghost use Rattle.recipe_calls.specs.Words.{firstOf};
 ghost use Rattle.recipe_calls.specs.Calls.{rowLeft, stateLeft, rackLeft, translationTold, translateWords, ranTold, runWords, rackWords, promisedOf, ccrAfter, recipeRunWords};
+ghost use Rattle.recipe_calls.specs.Boxes.{boxState, BoxPut};
 use alu::types::ccr;
 use alu::types::flags_of;
 use recipes::printer::print;
@@ -31,10 +35,12 @@ use rows::put_eight;
 use rows::put_steps;
 use rows::put_told;
 use rows::steps_of;
+use step::forms::Step;
 use step::racks::plan;
 use step::registers::State;
 use step::runs::End;
 use step::runs::Ran;
+use step::runs::SLOTS;
 use step::runs::lesser;
 use step::runs::run_array;
 use step::steps::class;
@@ -137,6 +143,36 @@ pub fn listing_run(
     *told = ran_told(ran);
 }
 
+// Box i of a rack is run, and its registers and flags are written.
+fn run_box(
+    steps: [Step; SLOTS],
+    count: usize,
+    d: &mut [u32],
+    a: &mut [u32],
+    flags: &mut [u8],
+    i: usize,
+    start: usize,
+    budget: u32,
+) -> Ran
+    requires { ⌜ (8 * i + 8 ≤ length (now d)) × (8 * i + 8 ≤ length (now a)) × (i < length (now flags)) ⌝ }
+    ensures { λ r. ⌜ (r ≡ runOf performOf (take count steps) (boxState i (now (d .entry)) (now (a .entry)) (now (flags .entry))) start budget) × BoxPut i r (now (d .entry)) (now (a .entry)) (now (flags .entry)) (now (d .exit)) (now (a .exit)) (now (flags .exit)) ⌝ }
+{
+    let before = State {
+        d: eight_at(d, i),
+        a: eight_at(a, i),
+        flags: flags_of(flags[i]),
+    };
+    let ran = run_array(steps, count, before, start, budget);
+    let after = ran.state;
+    let after_d = after.d;
+    let after_a = after.a;
+    let after_flags = after.flags;
+    put_eight(d, i, after_d);
+    put_eight(a, i, after_a);
+    flags[i] = ccr(after_flags);
+    ran
+}
+
 // Runs the first `SLOTS` steps of a listing on a rack of as many boxes as there are flags, each from its own start place and
 // with the whole budget. A box has eight words of `d`, of `a` and of `answers`, which gets what `listing_run` tells of it.
 // `told` gets the refusal number and how many boxes were run.
@@ -157,19 +193,7 @@ pub fn rack_run(
     let racked = plan(flags.len(), starts.len(), words / TOLD);
     let mut i = 0;
     while i < racked.boxes {
-        let before = State {
-            d: eight_at(d, i),
-            a: eight_at(a, i),
-            flags: flags_of(flags[i]),
-        };
-        let ran = run_array(steps, listing.len(), before, starts[i], budget);
-        let after = ran.state;
-        let after_d = after.d;
-        let after_a = after.a;
-        let after_flags = after.flags;
-        put_eight(d, i, after_d);
-        put_eight(a, i, after_a);
-        flags[i] = ccr(after_flags);
+        let ran = run_box(steps, listing.len(), d, a, flags, i, starts[i], budget);
         put_told(answers, i, ran_told(ran));
         i += 1;
     }

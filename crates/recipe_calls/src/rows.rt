@@ -48,16 +48,13 @@ pub(crate) fn eight_at(row: &[u32], i: usize) -> [u32; 8]
     ensures { λ r. ⌜ r ≡ eightAt i (now (row .entry)) ⌝ }
 {
     let at = 8 * i;
-    [
-        row[at],
-        row[at + 1],
-        row[at + 2],
-        row[at + 3],
-        row[at + 4],
-        row[at + 5],
-        row[at + 6],
-        row[at + 7],
-    ]
+    let mut words = [0; 8];
+    let mut j = 0;
+    while j < 8 {
+        words[j] = row[at + j];
+        j += 1;
+    }
+    words
 }
 
 // Box i's words are written.
