@@ -33,6 +33,7 @@ extern "C" {
 #define GRO_TEXT 1024  /* the bytes that the programs read of a text; the library takes any length */
 #define GRO_ROOM 20480 /* the bytes that any printed listing has room in */
 #define GRO_TOLD 8     /* the numbers that a call tells: those without a meaning are 0 */
+#define GRO_BOXES 64   /* the most boxes of a rack */
 
 /* Flags in one byte: X 16, N 8, Z 4, V 2, C 1. Higher bits don't count, and are 0 in answers. */
 enum gro_flag { GRO_X = 16, GRO_N = 8, GRO_Z = 4, GRO_V = 2, GRO_C = 1 };
@@ -52,8 +53,8 @@ enum gro_operation {
  * called with a count above 63; 2 the operation hasn't that size, or there is no such operation, size or step; 3 a step's register
  * number is above 7. A step is tested for 3, 2, 1. Of recipes: 4 the width line; 6 no such number at this width; 7 copy of a number
  * onto itself; 8 more than GRO_LINES lines; 9 too few slots; 11 unknown verb; 12 too few or too many fields; 13 a field that isn't one
- * digit; 14 no byte 10. A line is tested for 8, 14, 11, 12, 13, 6, 7. Of runs: 10 the start place is past the end. Any number but 0 is a
- * refusal: a later library may give others.
+ * digit; 14 no byte 10. A line is tested for 8, 14, 11, 12, 13, 6, 7. Of runs: 10 the start place is past the end. Of racks: 15 more than
+ * GRO_BOXES boxes, or a row that is too short for them. Any number but 0 is a refusal: a later library may give others.
  */
 
 /*
@@ -85,6 +86,17 @@ enum gro_source { GRO_NONE = 0, GRO_SMALL = 1, GRO_DATA = 2, GRO_ADDRESS = 3 };
 enum gro_end { GRO_FINISHED = 0, GRO_BUDGET = 1, GRO_TRAPPED = 2, GRO_REFUSED = 3 };
 void listing_run(const uint64_t *listing, size_t length, uint32_t d[8], uint32_t a[8], uint8_t *flags, size_t start, uint32_t budget,
                  uint64_t told[GRO_TOLD]);
+
+/*
+ * Runs a listing on a rack of boxes, one after the other: of each, listing_run from its own start place with the whole budget. There
+ * are as many boxes as flags. Box i has the words 8 i to 8 i + 7 of d, of a and of answers; the last get what listing_run tells. What
+ * lies behind the boxes' words in a row is neither read nor written. A box's own trap or refusal is in its answer, and has no effect on
+ * the other boxes. told: 0 the refusal number, 1 the boxes that were run. Refused with 15, before any box is run: more than GRO_BOXES
+ * flags; fewer starts than flags; d, a or answers with fewer than 8 words for each of the flags. Then no row but told is written.
+ */
+void rack_run(const uint64_t *listing, size_t length, uint32_t *d, size_t d_length, uint32_t *a, size_t a_length, uint8_t *flags,
+              size_t boxes, const size_t *starts, size_t starts_length, uint32_t budget, uint64_t *answers, size_t answers_length,
+              uint64_t told[GRO_TOLD]);
 
 /*
  * Prints a listing as the program recipe does, with this width in the first line. A listing longer than GRO_SLOTS is cut: it ends at

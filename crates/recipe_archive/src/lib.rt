@@ -5,7 +5,7 @@ ghost use mathlib.Core.Path.{_≡_};
 ghost use Rattle.text.specs.Wrote.{written, writing};
 ghost use Rattle.recipes.specs.Printer.{listingText, answerOf};
 ghost use Rattle.recipe_calls.specs.Words.{firstOf};
-ghost use Rattle.recipe_calls.specs.Calls.{rowLeft, stateLeft, translateWords, runWords, recipeRunWords};
+ghost use Rattle.recipe_calls.specs.Calls.{rowLeft, stateLeft, rackLeft, translateWords, runWords, rackWords, recipeRunWords};
 use recipe_calls::TOLD;
 
 #[no_mangle]
@@ -28,6 +28,22 @@ pub extern "C" fn listing_run(
     ensures { λ _. ⌜ stateLeft (now (d .exit)) (now (a .exit)) (now (flags .exit)) (now (told .exit)) ≡ runWords (now (listing .entry)) (now (d .entry)) (now (a .entry)) (now (flags .entry)) start budget ⌝ }
 {
     recipe_calls::listing_run(listing, d, a, flags, start, budget, told);
+}
+
+#[no_mangle]
+pub extern "C" fn rack_run(
+    listing: &[u64],
+    d: &mut [u32],
+    a: &mut [u32],
+    flags: &mut [u8],
+    starts: &[usize],
+    budget: u32,
+    answers: &mut [u64],
+    told: &mut [u64; TOLD],
+)
+    ensures { λ _. ⌜ rackLeft (now (d .exit)) (now (a .exit)) (now (flags .exit)) (now (answers .exit)) (now (told .exit)) ≡ rackWords (now (listing .entry)) (now (d .entry)) (now (a .entry)) (now (flags .entry)) (now (starts .entry)) budget (now (answers .entry)) ⌝ }
+{
+    recipe_calls::rack_run(listing, d, a, flags, starts, budget, answers, told);
 }
 
 #[no_mangle]

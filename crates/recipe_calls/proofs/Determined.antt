@@ -15,9 +15,10 @@ use Rattle.step.proofs.Determined.{OneExit}
 use Rattle.text.specs.Wrote.{Written, written, writing}
 use Rattle.recipes.specs.Printer.{listingText, answerOf}
 use Rattle.recipe_calls.specs.Words.{firstOf}
-use Rattle.recipe_calls.specs.Calls.{RowLeft, StateLeft, rowLeft, stateLeft, translateWords, runWords, recipeRunWords}
+use Rattle.recipe_calls.specs.Calls.{RowLeft, StateLeft, RackLeft, rowLeft, stateLeft, rackLeft, translateWords, runWords, rackWords, recipeRunWords}
 use Rattle.recipe_calls.proofs.recipe_translate as recipe-translate
 use Rattle.recipe_calls.proofs.listing_run as listing-run
+use Rattle.recipe_calls.proofs.rack_run as rack-run
 use Rattle.recipe_calls.proofs.listing_print as listing-print
 use Rattle.recipe_calls.proofs.recipe_answer as recipe-answer
 use Rattle.recipe_calls.proofs.recipe_run as recipe-run
@@ -39,6 +40,16 @@ module _ {M : Type 1} (𝓤 : URA M) (H : Heap 𝓤) (A : Atoms 𝓤) (mem : Mem
     of = runWords (now (a .0)) (now (a .1 .0)) (now (a .1 .1 .0)) (now (a .1 .1 .1 .0)) (a .1 .1 .1 .1 .0) (a .1 .1 .1 .1 .1 .0);
     is = λ r ws. refl;
     all = λ r r′ ws ws′ e. (refl, ap (λ (l : StateLeft). (tt, (l .d, (l .a, (l .flags, (tt, (tt, (l .told, tt)))))))) e);
+  }
+
+  pub rack-run-determined :
+      (κs : Lfts 7) (a : Args rack-run.signature κs) →
+      OneExit 𝓤 rack-run.ended κs a (λ r ws. rackLeft (ws .1 .0) (ws .1 .1 .0) (ws .1 .1 .1 .0) (ws .1 .1 .1 .1 .1 .1 .0) (ws .1 .1 .1 .1 .1 .1 .1 .0))
+      (rack-run.clauses 𝓤 H A mem go κs a .ensures tt)
+  rack-run-determined κs a = record {
+    of = rackWords (now (a .0)) (now (a .1 .0)) (now (a .1 .1 .0)) (now (a .1 .1 .1 .0)) (now (a .1 .1 .1 .1 .0)) (a .1 .1 .1 .1 .1 .0) (now (a .1 .1 .1 .1 .1 .1 .0));
+    is = λ r ws. refl;
+    all = λ r r′ ws ws′ e. (refl, ap (λ (l : RackLeft). (tt, (l .d, (l .a, (l .flags, (tt, (tt, (l .answers, (l .told, tt))))))))) e);
   }
 
   pub listing-print-determined :

@@ -36,7 +36,7 @@ loop-holds c =
     let words = min (min (length (a .d .now)) (length (a .a .now))) (length (a .answers .now)) in
     let is : c .before .lesser2 .result ≡ words = c .before .lesser2 .ensures ∙ ap (λ (k : ℕ). min k (length (a .answers .now))) (c .before .before .lesser .ensures) in
     let w : Within (c .plan .result .boxes) f p (words / 8) =
-        subst⁻¹ (λ (k : Racked). Within (k .boxes) f p (words / 8)) (c .plan .ensures ∙ ap (λ (k : ℕ). planOf f p (k / 8)) is) (plan-within f p (words / 8)) in
+    subst⁻¹ (λ (k : Racked). Within (k .boxes) f p (words / 8)) (c .plan .ensures ∙ ap (λ (k : ℕ). planOf f p (k / 8)) is) (plan-within f p (words / 8)) in
     let room = room-in (c .plan .result .boxes) (length (a .d .now)) (length (a .a .now)) (length (a .answers .now)) (w .answers) in
     (search needs, w .sets, w .starts, room .in-d, room .in-a, room .in-answers, refl, refl, refl, refl, after-none _ _ _ _ _ _ _ _)
 
@@ -70,9 +70,9 @@ loop-again c =
     let told = t .put-told .ensures ∙ ap (λ (w : List ℕ). paste (l .answers) (8 * l .i) w 8) (t .before .ran-told .ensures) in
     let l′ = firstOf (a .listing .now) in
     let after = after-next l′ n (a .d .now) (a .a .now) (a .flags .now) (a .starts .now) (a .budget) (a .answers .now) (l .inv .1) (l .inv .2)
-        (l .d) (l .a) (l .flags) (l .answers) (l .i) inside (l .inv .10) (r .run-box .result) ran _ _ _ _ (r .run-box .ensures .1) told in
+    (l .d) (l .a) (l .flags) (l .answers) (l .i) inside (l .inv .10) (r .run-box .result) ran _ _ _ _ (r .run-box .ensures .1) told in
     let long = after-length l′ n (a .d .now) (a .a .now) (a .flags .now) (a .starts .now) (a .budget) (a .answers .now) (l .inv .1) (l .inv .2)
-        _ _ _ _ (l .i + 1) (omega (arith, inside)) (l .inv .3) (l .inv .4) (l .inv .5) after in
+    _ _ _ _ (l .i + 1) (omega (arith, inside)) (l .inv .3) (l .inv .4) (l .inv .5) after in
     (omega (arith, inside), l .inv .1, l .inv .2, l .inv .3, l .inv .4, l .inv .5, long .0, long .1, long .2, long .3, after)
 
 returns : tie.Need-returns Inv-loop μ-loop
@@ -83,10 +83,10 @@ returns c =
     let k = p .plan .result in
     let is = p .before .lesser2 .ensures ∙ ap (λ (m : ℕ). min m (length (a .answers .now))) (p .before .before .lesser .ensures) in
     let plan : k ≡ planOf (length (a .flags .now)) (length (a .starts .now)) (min (min (length (a .d .now)) (length (a .a .now))) (length (a .answers .now)) / 8) =
-        p .plan .ensures ∙ ap (λ (m : ℕ). planOf (length (a .flags .now)) (length (a .starts .now)) (m / 8)) is in
+    p .plan .ensures ∙ ap (λ (m : ℕ). planOf (length (a .flags .now)) (length (a .starts .now)) (m / 8)) is in
     let all : l .i ≡ k .boxes = search needs in
     after-all (a .listing .now) (a .d .now) (a .a .now) (a .flags .now) (a .starts .now) (a .budget) (a .answers .now) (l .d) (l .a) (l .flags) (l .answers) (l .i)
-        (c .before .number .result) k (l .inv .1) (l .inv .2) all (c .before .number .ensures) (l .inv .10)
+    (c .before .number .result) k (l .inv .1) (l .inv .2) all (c .before .number .ensures) (l .inv .10)
     ∙ ap (rackBy (a .listing .now) (a .d .now) (a .a .now) (a .flags .now) (a .starts .now) (a .budget) (a .answers .now)) plan
 
 pub rack-run-spec : {M : Type 1} → statement M
