@@ -2,7 +2,7 @@
  * hammer [COUNT] [SEED]: random and damaged input for every function, each row in memory of just its size, so that a sanitizer or valgrind
  * sees a byte too many; what is told stands between guard numbers. No reading of document 01 is here (the Rust example hammer has one): one
  * function is held to another. What is translated and printed, or refused, is what recipe_answer prints; what is translated and run is what
- * recipe_run leaves. Every refusal and every end must be met, and no other. The last line is 'N inputs, M differ'; status 1: one differs, or
+ * recipe_run leaves; each box of a rack is what listing_run leaves. Every refusal and every end must be met, and no other. The last line is 'N inputs, M differ'; status 1: one differs, or
  * something was never met.
  */
 #include "gromavelush.h"
@@ -11,7 +11,7 @@
 #include <stdlib.h>
 #include <string.h>
 
-enum { SLOTS = GRO_SLOTS + 44, TEXT = GRO_TEXT + 176, OPERATIONS = GRO_CHK + 1, SIZES = GRO_LONG + 1, GUARD = 8, NUMBERS = 14 };
+enum { SLOTS = GRO_SLOTS + 44, TEXT = GRO_TEXT + 176, OPERATIONS = GRO_CHK + 1, SIZES = GRO_LONG + 1, GUARD = 8, NUMBERS = 15 };
 
 /* The numbers of the header, and how often each was met. */
 struct counts {
@@ -20,7 +20,7 @@ struct counts {
     uint64_t numbers[NUMBERS], met[NUMBERS];
 };
 
-static struct counts refusals = {"refusals (0 is acceptance)", 14, {0, 1, 2, 3, 4, 6, 7, 8, 9, 10, 11, 12, 13, 14}, {0}};
+static struct counts refusals = {"refusals (0 is acceptance)", 15, {0, 1, 2, 3, 4, 6, 7, 8, 9, 10, 11, 12, 13, 14, 15}, {0}};
 static struct counts ends = {"ends", 4, {GRO_FINISHED, GRO_BUDGET, GRO_TRAPPED, GRO_REFUSED}, {0}};
 static uint64_t seed, differing;
 
@@ -66,7 +66,7 @@ static uint64_t *told_row(void) {
 }
 
 /* After the call: behind the first places, which mean something, all are 0, and the guards as they were. */
-enum { OF_RUN = 6, OF_TRANSLATION = 4, OF_RECIPE = 6 };
+enum { OF_RUN = 6, OF_TRANSLATION = 4, OF_RECIPE = 6, OF_RACK = 2 };
 static void is_told(const uint64_t *told, unsigned many) {
     unsigned i, good = 1;
     for (i = many; i < GRO_TOLD; i++) good &= told[i] == 0;
@@ -156,6 +156,47 @@ static void try_listing(void) {
     agrees(same_registers(whole, halted) && *whole.flags == *halted.flags, "the state of a run in two");
     agrees(listing_print((uint8_t)bits(), listing, length, out, room) <= room, "more is printed than there is room for");
     free(listing), forget(told), forget(begun), forget(rest), free(out), drop(whole), drop(halted);
+}
+
+/* ---- racks */
+
+/* Box i of the rows as they were is run alone: it is what the rack left of it. */
+static void try_box(const uint64_t *listing, size_t length, struct state was, struct state left, size_t i, size_t start, uint32_t budget, const uint64_t *answer) {
+    struct state alone = some_state();
+    uint64_t *told = told_row();
+    memcpy(alone.d, was.d + 8 * i, REGISTERS), memcpy(alone.a, was.a + 8 * i, REGISTERS);
+    *alone.flags = was.flags[i];
+    listing_run(listing, length, alone.d, alone.a, alone.flags, start, budget, told);
+    count(&ends, told[0]);
+    agrees(!memcmp(told, answer, GRO_TOLD * sizeof *told), "what is told of a box");
+    agrees(!memcmp(alone.d, left.d + 8 * i, REGISTERS) && !memcmp(alone.a, left.a + 8 * i, REGISTERS) && *alone.flags == left.flags[i], "a box");
+    forget(told), drop(alone);
+}
+
+/* A row as long as so many boxes want it, or a word too short, or longer. */
+static size_t some_length(size_t wanted) { return below(16) == 0 && wanted ? wanted - 1 : wanted + (below(4) ? 0 : below(12)); }
+
+static void try_rack(void) {
+    size_t length = below(24), boxes = below(8) ? below(6) : below(GRO_BOXES + 6), i, run;
+    size_t d = some_length(8 * boxes), a = some_length(8 * boxes), places = some_length(boxes), words = some_length(GRO_TOLD * boxes);
+    struct state was = {(uint32_t *)row(4 * d), (uint32_t *)row(4 * a), (uint8_t *)row(boxes)}, left = {(uint32_t *)row(4 * d), (uint32_t *)row(4 * a), (uint8_t *)row(boxes)};
+    uint64_t *listing = (uint64_t *)row(8 * length), *answers = (uint64_t *)row(8 * words), *before = (uint64_t *)row(8 * words), *told = told_row();
+    size_t *starts = (size_t *)row(places * sizeof *starts);
+    uint32_t budget = (uint32_t)(below(2) ? below(24) : bits());
+    int fits = boxes <= GRO_BOXES && d >= 8 * boxes && a >= 8 * boxes && places >= boxes && words >= GRO_TOLD * boxes;
+    for (i = 0; i < length; i++) listing[i] = some_word();
+    for (i = 0; i < places; i++) starts[i] = below(4) ? 0 : below(8) ? below((unsigned)length + 2) : (size_t)bits();
+    memcpy(left.d, was.d, 4 * d), memcpy(left.a, was.a, 4 * a), memcpy(left.flags, was.flags, boxes), memcpy(before, answers, 8 * words);
+    rack_run(listing, length, left.d, d, left.a, a, left.flags, boxes, starts, places, budget, answers, words, told);
+    is_told(told, OF_RACK);
+    count(&refusals, told[0]);
+    run = fits ? boxes : 0;
+    agrees(told[0] == (fits ? 0u : 15u) && told[1] == run, "whether a rack is run");
+    for (i = 0; i < run; i++) try_box(listing, length, was, left, i, starts[i], budget, answers + GRO_TOLD * i);
+    agrees(!memcmp(answers + GRO_TOLD * run, before + GRO_TOLD * run, 8 * (words - GRO_TOLD * run)), "spare slots");
+    agrees(!memcmp(left.d + 8 * run, was.d + 8 * run, 4 * (d - 8 * run)) && !memcmp(left.a + 8 * run, was.a + 8 * run, 4 * (a - 8 * run)), "spare registers");
+    agrees(!memcmp(left.flags + run, was.flags + run, boxes - run), "the flags of a refused rack");
+    drop(was), drop(left), free(listing), free(answers), free(before), free(starts), forget(told);
 }
 
 /* ---- recipes */
@@ -295,6 +336,7 @@ int main(int argc, char **argv) {
         case 0: try_text(); break;
         case 1: try_by_hand(); break;
         case 2: try_listing(); break;
+        case 3: try_rack(); break;
         default: try_operation(); break;
         }
     }

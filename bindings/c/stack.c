@@ -17,6 +17,10 @@ static ucontext_t here, there;
 static uint64_t listing[MOST], told[GRO_TOLD];
 static uint32_t d[8], a[8];
 static uint8_t flags;
+static uint32_t rack_d[16], rack_a[16];
+static uint8_t rack_flags[2];
+static const size_t starts[2] = {0, MOST};
+static uint64_t answers[16];
 static char text[GRO_TEXT];
 static size_t length;
 static unsigned operation, size;
@@ -27,6 +31,7 @@ static void call_translate(void) { recipe_translate((const uint8_t *)text, lengt
 static void call_answer(void) { told[0] = recipe_answer((const uint8_t *)text, length, out, GRO_ROOM); }
 static void call_run_recipe(void) { recipe_run((const uint8_t *)text, length, d, a, &flags, told); }
 static void call_run(void) { listing_run(listing, MOST, d, a, &flags, 0, 1000, told); }
+static void call_rack(void) { rack_run(listing, MOST, rack_d, 16, rack_a, 16, rack_flags, 2, starts, 2, 1000, answers, 16, told); }
 static void call_print(void) { told[0] = listing_print((uint8_t)size, listing, MOST, out, GRO_ROOM); }
 
 /* The bytes that a call changed, from the deepest up; one that stayed as painted by chance counts with those below it. */
@@ -88,6 +93,7 @@ int main(int count, char **words) {
     memcpy(out, words, (size_t)count); /* the loader binds it here */
     good = show("alu_call", most_of_steps(call_alu) - least);
     good &= show("listing_run", most_of_steps(call_run) - least);
+    good &= show("rack_run", most_of_steps(call_rack) - least);
     good &= show("listing_print", most_of_steps(call_print) - least);
     good &= show("recipe_translate", most_of_recipes(call_translate) - least);
     good &= show("recipe_answer", most_of_recipes(call_answer) - least);

@@ -203,6 +203,86 @@ static void test_runs(void) {
     run_one(listing, MOST, GRO_SLOTS + 1, 9, past, 0xFFFFFFFF, 0);
 }
 
+/* ---- racks */
+
+/* A rack's rows between guards, and how many elements each has. A box's registers tell its place. */
+struct lengths {
+    size_t boxes, d, a, starts, answers;
+};
+
+struct rack {
+    uint32_t *d, *a;
+    uint8_t *flags;
+    size_t *starts;
+    uint64_t *answers;
+};
+
+/* From the first place, from the second, at the end, past it. */
+static size_t start_of(size_t box) {
+    static const size_t starts[5] = {0, 0, 1, STEPS, STEPS + 1};
+    return starts[box % 5];
+}
+
+static struct rack rack_of(struct lengths of) {
+    struct rack made;
+    size_t i;
+    made.d = (uint32_t *)row(of.d * sizeof *made.d), made.a = (uint32_t *)row(of.a * sizeof *made.a);
+    made.flags = (uint8_t *)row(of.boxes), made.starts = (size_t *)row(of.starts * sizeof *made.starts);
+    made.answers = (uint64_t *)row(of.answers * sizeof *made.answers);
+    for (i = 0; i < of.d; i++) made.d[i] = (uint32_t)(i * 0x10000001u);
+    for (i = 0; i < of.a; i++) made.a[i] = (uint32_t)i;
+    for (i = 0; i < of.boxes; i++) made.flags[i] = (uint8_t)i;
+    for (i = 0; i < of.starts; i++) made.starts[i] = start_of(i);
+    return made;
+}
+
+static void rack_done(struct rack of, struct lengths is, unsigned long at) {
+    done(of.d, is.d * sizeof *of.d, "around the data registers of a rack", at);
+    done(of.a, is.a * sizeof *of.a, "around the address registers of a rack", at);
+    done(of.flags, is.boxes, "around the flags of a rack", at);
+    done(of.starts, is.starts * sizeof *of.starts, "around the start places of a rack", at);
+    done(of.answers, is.answers * sizeof *of.answers, "around the slots of a rack", at);
+}
+
+/* Whether two rows of so many elements are alike. */
+static int alike(const void *one, const void *other, size_t many, size_t bytes) { return memcmp(one, other, many * bytes) == 0; }
+
+/* Rows of so many elements: each box is what listing_run makes of it, and what is spare stays; or all stays, and it is refused. */
+static void rack_one(size_t boxes, size_t d, size_t a, size_t starts, size_t answers, uint32_t budget, int refused) {
+    const struct lengths is = {boxes, d, a, starts, answers};
+    struct rack ran = rack_of(is), should = rack_of(is);
+    uint64_t *told = told_row(), tell[GRO_TOLD] = {0};
+    size_t run = refused ? 0 : boxes, i;
+    if (refused) tell[0] = 15;
+    tell[1] = run;
+    rack_run(steps, STEPS, ran.d, d, ran.a, a, ran.flags, boxes, ran.starts, starts, budget, ran.answers, answers, told);
+    tells(told, tell, "what is told of a rack", (unsigned long)boxes);
+    for (i = 0; i < run; i++)
+        listing_run(steps, STEPS, should.d + 8 * i, should.a + 8 * i, should.flags + i, start_of(i), budget, should.answers + 8 * i);
+    check(alike(ran.d, should.d, d, sizeof *ran.d), "the data registers of a rack", (unsigned long)boxes);
+    check(alike(ran.a, should.a, a, sizeof *ran.a), "the address registers of a rack", (unsigned long)boxes);
+    check(alike(ran.flags, should.flags, boxes, 1), "the flags of a rack", (unsigned long)boxes);
+    check(alike(ran.starts, should.starts, starts, sizeof *ran.starts), "the start places of a rack", (unsigned long)boxes);
+    check(alike(ran.answers, should.answers, answers, sizeof *ran.answers), "the slots of a rack", (unsigned long)boxes);
+    rack_done(ran, is, (unsigned long)boxes), rack_done(should, is, (unsigned long)boxes);
+}
+
+static void test_racks(void) {
+    size_t boxes, words;
+    for (boxes = 0; boxes <= GRO_BOXES + 2; boxes++) {
+        words = boxes * GRO_TOLD;
+        rack_one(boxes, words, words, boxes, words, (uint32_t)boxes % 6, boxes > GRO_BOXES);
+        rack_one(boxes, words + 9, words + 1, boxes + 2, words + 7, 100, boxes > GRO_BOXES);
+        if (boxes == 0) continue;
+        rack_one(boxes, words - 1, words, boxes, words, 100, 1);
+        rack_one(boxes, words, words - 1, boxes, words, 100, 1);
+        rack_one(boxes, words, words, boxes - 1, words, 100, 1);
+        rack_one(boxes, words, words, boxes, words - 1, 100, 1);
+    }
+    rack_one(GRO_BOXES + 1, 0, 0, 0, 0, 100, 1);
+    rack_one(0, 56, 56, 7, 56, 100, 0);
+}
+
 /* ---- printing */
 
 /* Into so much room: as many bytes as there is room for, and no other byte touched. */
@@ -264,6 +344,7 @@ int main(void) {
     test_operations();
     test_translating();
     test_runs();
+    test_racks();
     test_printing();
     test_recipes();
     printf("%lu checks, %lu failed\n", checks, failed);

@@ -4,11 +4,11 @@
 //!
 //! - single operations on values and flags: [`exec_add`], [`exec_addx`], [`exec_chk`] and 27 more;
 //! - a step machine: a [`State`] of registers and flags, a [`Listing`] of [`Step`]s, and [`run`], which can be halted after
-//!   any step and continued;
+//!   any step and continued; [`rack`] runs one listing on up to [`MOST_BOXES`] states;
 //! - counter recipes, short texts on whole numbers of one, two or four long words: [`translate`], [`print`](fn@print),
 //!   [`answer`] and [`run_text`]; a [`Recipe`] made by hand prints as its text.
 //!
-//! What a function does not take it refuses, with one of document 01's numbers ([`Refusal`]), and changes nothing. No
+//! What a function does not take it refuses, with one of the documents' numbers ([`Refusal`]), and changes nothing. No
 //! function panics on any input; it does where the library that is linked is of another version, and tells what this
 //! package doesn't know.
 //!
@@ -41,6 +41,7 @@ mod alu;
 mod limits;
 mod listing;
 mod operations;
+mod rack;
 mod recipe;
 mod state;
 mod step;
@@ -49,9 +50,10 @@ mod sys;
 mod types;
 
 pub use alu::*;
-pub use limits::{MOST_LINES, MOST_STEPS, RECIPE_STEPS};
+pub use limits::{MOST_BOXES, MOST_LINES, MOST_STEPS, RECIPE_STEPS};
 pub use listing::{End, Listing, Ran, TooLong, Trap, run, run_words};
 pub use operations::{AddressOp, BitOp, OneOp, QuickOp, ShiftOp, TwoOp};
+pub use rack::{rack, rack_run};
 pub use recipe::{
     Line, Recipe, RecipeRun, Refused, Verb, answer, print, run_text, translate, translate_into,
 };

@@ -9,6 +9,9 @@ pub const MOST_STEPS: usize = 256;
 /// As many steps as a recipe may have, so that so many slots are enough for any: `GRO_STEPS`, and `STEPS_MAX` of recipes.
 pub const RECIPE_STEPS: usize = 256;
 
+/// As many boxes as a rack may have: `GRO_BOXES`, and `BOXES_MAX` of the crate step.
+pub const MOST_BOXES: usize = 64;
+
 /// Bytes enough for what is printed of any listing.
 pub(crate) const ROOM: usize = 20_480;
 
@@ -39,6 +42,7 @@ mod tests {
             ("GRO_STEPS", RECIPE_STEPS),
             ("GRO_ROOM", ROOM),
             ("GRO_TOLD", TOLD),
+            ("GRO_BOXES", MOST_BOXES),
         ];
         for (name, limit) in limits {
             assert_eq!(defined(name), Some(limit), "{name}");

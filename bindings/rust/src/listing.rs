@@ -122,7 +122,7 @@ fn trap_of(class: u64) -> Trap {
 }
 
 impl Ran {
-    fn told([end, which, place, next, steps, clocks, ..]: [u64; TOLD]) -> Ran {
+    pub(crate) fn told([end, which, place, next, steps, clocks, ..]: [u64; TOLD]) -> Ran {
         let place = place as usize;
         let end = match end {
             0 => End::Finished,

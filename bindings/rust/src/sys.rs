@@ -17,6 +17,22 @@ mod c {
             budget: u32,
             told: *mut u64,
         );
+        pub fn rack_run(
+            listing: *const u64,
+            length: usize,
+            d: *mut u32,
+            d_length: usize,
+            a: *mut u32,
+            a_length: usize,
+            flags: *mut u8,
+            boxes: usize,
+            starts: *const usize,
+            starts_length: usize,
+            budget: u32,
+            answers: *mut u64,
+            answers_length: usize,
+            told: *mut u64,
+        );
         pub fn listing_print(
             width: u8,
             listing: *const u64,
@@ -66,6 +82,39 @@ pub fn listing_run(listing: &[u64], on: Registers, start: usize, budget: u32) ->
             on.flags,
             start,
             budget,
+            told.as_mut_ptr(),
+        );
+    }
+    told
+}
+
+/// The rows of a rack: of each box eight data registers, eight address registers, a byte of flags, and eight numbers.
+pub struct Rows<'a> {
+    pub d: &'a mut [u32],
+    pub a: &'a mut [u32],
+    pub flags: &'a mut [u8],
+    pub answers: &'a mut [u64],
+}
+
+pub fn rack_run(listing: &[u64], on: Rows, starts: &[usize], budget: u32) -> [u64; TOLD] {
+    let mut told = [0; TOLD];
+    // SAFETY: every row is a slice, handed over with its own length, or is ours and has the length that the function takes;
+    // those that it writes are borrowed mutably or are ours, so they overlap nothing. It keeps no pointer.
+    unsafe {
+        c::rack_run(
+            listing.as_ptr(),
+            listing.len(),
+            on.d.as_mut_ptr(),
+            on.d.len(),
+            on.a.as_mut_ptr(),
+            on.a.len(),
+            on.flags.as_mut_ptr(),
+            on.flags.len(),
+            starts.as_ptr(),
+            starts.len(),
+            budget,
+            on.answers.as_mut_ptr(),
+            on.answers.len(),
             told.as_mut_ptr(),
         );
     }

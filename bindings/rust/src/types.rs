@@ -1,6 +1,6 @@
 //! Sizes, flags and refusals.
 
-use crate::limits::{MOST_LINES, MOST_STEPS, RECIPE_STEPS};
+use crate::limits::{MOST_BOXES, MOST_LINES, MOST_STEPS, RECIPE_STEPS};
 use std::error::Error;
 use std::fmt::{self, Display, Formatter};
 
@@ -160,6 +160,8 @@ refusals! {
         "a number is one digit; write nothing else between the tabs";
     NoNewline = 14 "a line without byte 10",
         "the line has no end; end each line with byte 10, the last too";
+    TooManyBoxes = 15 "a rack has more boxes than [`MOST_BOXES`], or a row too short for them",
+        "there are more than {MOST_BOXES} boxes, or a row is too short for them; make two racks of it, or the row longer";
 }
 
 impl Refusal {

@@ -44,7 +44,7 @@ fn form_of(operation: u8, kind: u8, from: u8, to: u8) -> Option<Form> {
 /// What a word stands for that names no step.
 const REFUSED: Step = Step { size: Size::Byte, form: Form::Chk(0, 0) };
 
-fn step_of(word: u64) -> Step {
+pub fn step_of(word: u64) -> Step {
     let [operation, size, kind, from, to, ..] = word.to_le_bytes();
     let size = [Size::Byte, Size::Word, Size::Long].get(usize::from(size)).copied();
     match (size, form_of(operation, kind, from, to)) {
@@ -54,7 +54,7 @@ fn step_of(word: u64) -> Step {
 }
 
 /// Words of steps that are all done, of some that are refused or trap, with a byte changed here and there, or any.
-fn some_words(random: &mut Random) -> Vec<u64> {
+pub fn some_words(random: &mut Random) -> Vec<u64> {
     let kinds = random.pick(&[MIXED, WILD]);
     let how = random.below(4);
     let seeds = [random.bits() as u32, random.bits() as u32];
@@ -76,7 +76,7 @@ fn some_words(random: &mut Random) -> Vec<u64> {
     words.collect()
 }
 
-fn told_of_safe(ran: &safe::Ran) -> [u64; TOLD] {
+pub fn told_of_safe(ran: &safe::Ran) -> [u64; TOLD] {
     let [end, which, place] = match ran.end {
         safe::End::Finished => [0, 0, 0],
         safe::End::Budget => [1, 0, 0],
@@ -86,7 +86,7 @@ fn told_of_safe(ran: &safe::Ran) -> [u64; TOLD] {
     told_of(&[end, which, place, ran.next as u64, ran.steps.into(), ran.clocks])
 }
 
-fn some_start(random: &mut Random, length: usize) -> usize {
+pub fn some_start(random: &mut Random, length: usize) -> usize {
     match random.below(8) {
         0 => length,
         1 => random.pick(&[length + 1, SLOTS, SLOTS + 1, usize::MAX, 1 << 32]),
@@ -96,7 +96,7 @@ fn some_start(random: &mut Random, length: usize) -> usize {
     }
 }
 
-fn some_budget(random: &mut Random) -> u32 {
+pub fn some_budget(random: &mut Random) -> u32 {
     match random.below(4) {
         0 => random.below(12) as u32,
         1 => random.below(LONGEST) as u32,
@@ -105,7 +105,7 @@ fn some_budget(random: &mut Random) -> u32 {
     }
 }
 
-fn counted(should: [u64; TOLD], tally: &mut Tally) {
+pub fn counted(should: [u64; TOLD], tally: &mut Tally) {
     tally.ended(should[0]);
     match should[0] {
         2 => tally.class(should[1]),
@@ -120,7 +120,7 @@ fn try_run(random: &mut Random, words: &Row<u64>, steps: &[Step], tally: &mut Ta
     let mut after = before;
     let should = told_of(&tuned::run(steps, &mut after, start, budget).told());
     let dirt = random.bits() as u8 & 0xE0;
-    let mut on = Registers::of(&before.d, &before.a, before.flags.ccr() | dirt);
+    let mut on = Registers::of(&before.d, &before.a, &[before.flags.ccr() | dirt]);
     let raw::Told(told, whole) = raw::run(words, &mut on, start, budget);
     let left = (on.d.get(), on.a.get(), on.flags.get()) == (&after.d, &after.a, &[after.flags.ccr()]);
     tally.called("listing_run");

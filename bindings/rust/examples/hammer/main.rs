@@ -3,13 +3,14 @@
 //!
 //!   hammer [COUNT] [SEED] [THREADS]   1,000,000 inputs of seed 1 in one thread, if nothing is said
 //!
-//! Of sixteen inputs ten are single operations, two are texts, two are recipes made by hand and printed, two are listings with a start place
-//! and a budget. Rows stand between guards. What was met is counted. Status 1: an answer differs, or a refusal, an end or a trap was never
+//! Of sixteen inputs nine are single operations, one is a rack, two are texts, two are recipes made by hand and printed, two are listings with a
+//! start place and a budget. Rows stand between guards. What was met is counted. Status 1: an answer differs, or a refusal, an end or a trap was never
 //! met, or one that there isn't.
 
 mod by_hand;
 mod listings;
 mod operations;
+mod racks;
 mod raw;
 mod tally;
 mod translated;
@@ -44,7 +45,8 @@ fn hammer(count: u64, seed: u64) -> Tally {
     let mut tally = Tally::default();
     for at in 0..count {
         match at % 16 {
-            0..10 => operations::try_one(&mut random, &mut tally),
+            0 => racks::try_one(&mut random, &mut tally),
+            1..10 => operations::try_one(&mut random, &mut tally),
             10..12 => written::try_one(&mut random, &mut tally),
             12..14 => by_hand::try_one(&mut random, &mut tally),
             _ => listings::try_one(&mut random, &mut tally),

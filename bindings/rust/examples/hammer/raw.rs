@@ -13,6 +13,22 @@ unsafe extern "C" {
         budget: u32,
         told: *mut u64,
     );
+    fn rack_run(
+        listing: *const u64,
+        length: usize,
+        d: *mut u32,
+        d_length: usize,
+        a: *mut u32,
+        a_length: usize,
+        flags: *mut u8,
+        boxes: usize,
+        starts: *const usize,
+        starts_length: usize,
+        budget: u32,
+        answers: *mut u64,
+        answers_length: usize,
+        told: *mut u64,
+    );
     fn listing_print(width: u8, listing: *const u64, length: usize, out: *mut u8, room: usize) -> usize;
     fn recipe_translate(
         text: *const u8,
@@ -69,8 +85,8 @@ pub struct Registers {
 }
 
 impl Registers {
-    pub fn of(d: &[u32; 8], a: &[u32; 8], flags: u8) -> Registers {
-        Registers { d: Row::of(d, 0xA5A5_A5A5), a: Row::of(a, 0x5A5A_5A5A), flags: Row::of(&[flags], 0xC3) }
+    pub fn of(d: &[u32], a: &[u32], flags: &[u8]) -> Registers {
+        Registers { d: Row::of(d, 0xA5A5_A5A5), a: Row::of(a, 0x5A5A_5A5A), flags: Row::of(flags, 0xC3) }
     }
 
     pub fn is_intact(&self) -> bool {
@@ -113,6 +129,39 @@ pub fn run(listing: &Row<u64>, on: &mut Registers, start: usize, budget: u32) ->
             flags.get_mut().as_mut_ptr(),
             start,
             budget,
+            row.get_mut().as_mut_ptr(),
+        );
+    }
+    told(&row)
+}
+
+/// The rows of a rack.
+pub struct Rack {
+    pub on: Registers,
+    pub answers: Row<u64>,
+}
+
+pub fn rack(listing: &Row<u64>, rack: &mut Rack, starts: &Row<usize>, budget: u32) -> Told {
+    let mut row = told_row();
+    let Registers { d, a, flags } = &mut rack.on;
+    let [d, a] = [d, a].map(Row::get_mut);
+    let (flags, answers) = (flags.get_mut(), rack.answers.get_mut());
+    // SAFETY: every pointer is of a slice, with its own length or the length that the function takes; no two rows overlap.
+    unsafe {
+        rack_run(
+            listing.get().as_ptr(),
+            listing.get().len(),
+            d.as_mut_ptr(),
+            d.len(),
+            a.as_mut_ptr(),
+            a.len(),
+            flags.as_mut_ptr(),
+            flags.len(),
+            starts.get().as_ptr(),
+            starts.get().len(),
+            budget,
+            answers.as_mut_ptr(),
+            answers.len(),
             row.get_mut().as_mut_ptr(),
         );
     }

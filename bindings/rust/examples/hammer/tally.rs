@@ -8,15 +8,17 @@ use std::iter::once;
 const SHOWN: u64 = 5;
 
 /// The C functions and the safe ones, counted by calls.
-pub const CALLS: [&str; 12] = [
+pub const CALLS: [&str; 14] = [
     "alu_call",
     "listing_run",
+    "rack_run",
     "listing_print",
     "recipe_translate",
     "recipe_answer",
     "recipe_run",
     "exec_..",
     "run, run_words",
+    "rack, rack_run of the package",
     "print",
     "translate, translate_into",
     "answer",

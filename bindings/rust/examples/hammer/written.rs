@@ -76,7 +76,7 @@ fn try_run(random: &mut Random, text: &[u8], recipe: &Wanted, tally: &mut Tally)
     let before = some_state(random);
     let (should, after, flags) = ran(recipe, before);
     let dirt = random.bits() as u8 & 0xE0;
-    let mut on = Registers::of(&before.d, &before.a, before.flags.ccr() | dirt);
+    let mut on = Registers::of(&before.d, &before.a, &[before.flags.ccr() | dirt]);
     let raw::Told(told, whole) = raw::run_recipe(text, &mut on);
     let left = (on.d.get(), on.a.get(), on.flags.get()) == (&after.d, &after.a, &[flags]);
     tally.called("recipe_run");

@@ -1,6 +1,7 @@
 //! The tests of the package, one program.
 
 mod common;
+mod racks;
 mod recipes;
 mod refusals;
 #[path = "../../../../compare/src/refusals.rs"]
