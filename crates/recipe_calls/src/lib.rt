@@ -157,9 +157,11 @@ fn run_box(
     requires { ⌜ (8 * i + 8 ≤ length (now d)) × (8 * i + 8 ≤ length (now a)) × (i < length (now flags)) ⌝ }
     ensures { λ r. ⌜ (r ≡ runOf performOf (take count steps) (boxState i (now (d .entry)) (now (a .entry)) (now (flags .entry))) start budget) × BoxPut i r (now (d .entry)) (now (a .entry)) (now (flags .entry)) (now (d .exit)) (now (a .exit)) (now (flags .exit)) ⌝ }
 {
+    let before_d = eight_at(d, i);
+    let before_a = eight_at(a, i);
     let before = State {
-        d: eight_at(d, i),
-        a: eight_at(a, i),
+        d: before_d,
+        a: before_a,
         flags: flags_of(flags[i]),
     };
     let ran = run_array(steps, count, before, start, budget);

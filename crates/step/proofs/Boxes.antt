@@ -44,32 +44,33 @@ module _ (a b c : ℕ) where
   pub plan-fits : Fitting a b c → planOf a b c ≡ record { fit = Fits; boxes = a }
   plan-fits h = simp (le-leb a boxesMax (h .few), le-leb a b (h .places), le-leb a c (h .slots))
 
-  fitting-by : (t u v : Bool) → leb a boxesMax ≡ t → leb a b ≡ u → leb a c ≡ v → planOf a b c .fit ≡ Fits → Fitting a b c
-  fitting-by true true true p q r e = record { few = leb-true a boxesMax p; places = leb-true a b q; slots = leb-true a c r }
-  fitting-by true true false p q r e = never (rw (p, q, r) at e)
-  fitting-by true false v p q r e = never (rw (p, q) at e)
-  fitting-by false u v p q r e = never (rw p at e)
-
   pub plan-fitting : planOf a b c .fit ≡ Fits → Fitting a b c
-  plan-fitting = fitting-by (leb a boxesMax) (leb a b) (leb a c) refl refl refl
+  plan-fitting = by-tests (leb a boxesMax) (leb a b) (leb a c) refl refl refl
+    where
+      by-tests : (t u v : Bool) → leb a boxesMax ≡ t → leb a b ≡ u → leb a c ≡ v → planOf a b c .fit ≡ Fits → Fitting a b c
+      by-tests true true true p q r e = record { few = leb-true a boxesMax p; places = leb-true a b q; slots = leb-true a c r }
+      by-tests true true false p q r e = never (rw (p, q, r) at e)
+      by-tests true false v p q r e = never (rw (p, q) at e)
+      by-tests false u v p q r e = never (rw p at e)
 
   pub plan-many : boxesMax < a → planOf a b c ≡ refusedRack
   plan-many h = simp (lt-leb a boxesMax h)
 
-  short-by : (t : Bool) → leb a boxesMax ≡ t → b < a → planOf a b c ≡ refusedRack
-  short-by true p h = simp (p, lt-leb a b h)
-  short-by false p h = simp p
-
+  -- a conjunction with a false part
   pub plan-short : b < a → planOf a b c ≡ refusedRack
-  plan-short = short-by (leb a boxesMax) refl
-
-  less-by : (t u : Bool) → leb a boxesMax ≡ t → leb a b ≡ u → c < a → planOf a b c ≡ refusedRack
-  less-by true true p q h = simp (p, q, lt-leb a c h)
-  less-by true false p q h = simp (p, q)
-  less-by false u p q h = simp p
+  plan-short h = by-test (leb a boxesMax) (leb a b) (leb a c) (lt-leb a b h)
+    where
+      by-test : (t u v : Bool) → u ≡ false → cond (t && u && v) (record { fit = Fits; boxes = a }) refusedRack ≡ refusedRack
+      by-test true u v e = simp e
+      by-test false u v e = refl
 
   pub plan-less : c < a → planOf a b c ≡ refusedRack
-  plan-less = less-by (leb a boxesMax) (leb a b) refl refl
+  plan-less h = by-test (leb a boxesMax) (leb a b) (leb a c) (lt-leb a c h)
+    where
+      by-test : (t u v : Bool) → v ≡ false → cond (t && u && v) (record { fit = Fits; boxes = a }) refusedRack ≡ refusedRack
+      by-test true true v e = simp e
+      by-test true false v e = refl
+      by-test false u v e = refl
 
 -- a rack runs no more boxes than it has sets, start places or slots
 pub record Within (n a b c : ℕ) : Type 0 where
