@@ -17,10 +17,10 @@ use crate::pen::line_start;
 use crate::pen::put;
 use crate::pen::put_byte;
 use crate::pen::put_decimal;
+use crate::pen::put_fields;
 use crate::pen::put_flags;
 use crate::pen::put_line;
 use crate::pen::put_right;
-use crate::pen::tab;
 use crate::pen::within;
 use crate::table::numbering;
 use crate::table::sizes;
@@ -30,6 +30,7 @@ use crate::words::Taking;
 use crate::words::WORD_ROOM;
 use crate::words::is_taken;
 use crate::words::report;
+use crate::words::tell;
 use crate::words::unsaid;
 use crate::words::with_text;
 use input::Input;
@@ -49,7 +50,7 @@ const FILE_MAX: usize = 16384;
 
 const FILE_ROOM: usize = FILE_MAX + 1;
 
-// Where the columns end, and where the numbers begin.
+// Where the columns end that stand to the right.
 const BOX: usize = 3;
 
 const PLACE: usize = 22;
@@ -57,8 +58,6 @@ const PLACE: usize = 22;
 const STEPS: usize = 29;
 
 const CLOCKS: usize = 37;
-
-const NUMBERS: usize = 50;
 
 // What the words of a line ask for. The last word that was read stands from `at` to `end`, and may not be taken.
 struct Line {
@@ -133,10 +132,6 @@ fn line_of<'a>(file: &'a [u8], k: usize) -> &'a [u8] {
     &file[from..end]
 }
 
-fn tell(text: &[u8]) {
-    io::write_all(STDERR_FILENO, text);
-}
-
 // Whether line k, from 0, is understood. A word that is not taken is reported.
 fn check_line(name: &[u8], k: usize, line: &[u8], asked: Asked) -> bool {
     let read = read_line(line, asked);
@@ -184,22 +179,13 @@ fn put_boxes(pen: Pen, count: usize) -> Pen {
     put(next, b"es")
 }
 
-// The heading of the columns. A number takes nine bytes for each long word, and one more.
+// The heading of the columns at width 1, 2 and 4.
 fn heading(width: u8) -> Pen {
-    let mut next = put(
-        at_start(),
-        b"box  end         place  steps  clocks  X N Z V C",
-    );
-    let mut column = NUMBERS;
-    let mut k = 0;
-    while k < count_of(width) {
-        next = tab(next, column);
-        next = put(next, b"number ");
-        next = put_decimal(next, k as u64);
-        column = std::num::wrapping_add_usize(column, 9 * width as usize + 1);
-        k += 1;
-    }
-    next
+    let all =
+        b"box  end         place  steps  clocks  X N Z V C  number 0  number 1  number 2  number 3  number 4  number 5  number 6  number 7\n\
+        box  end         place  steps  clocks  X N Z V C  number 0           number 1           number 2           number 3\n\
+        box  end         place  steps  clocks  X N Z V C  number 0                             number 1\n";
+    put_fields(at_start(), all, line_start(all, width as usize / 2))
 }
 
 // A number that ends before a column, behind two blanks at least.
@@ -236,25 +222,6 @@ fn row(number: u64, width: u8, ran: Ran) -> Pen {
     put_numbers(next, width, d)
 }
 
-fn put_rows(
-    out: &mut [u8],
-    at: usize,
-    file: &[u8],
-    count: usize,
-    asked: Asked,
-    width: u8,
-    made: Listing,
-) -> usize {
-    let mut next = at;
-    let mut k = 0;
-    while k < count {
-        let ran = run_of(file, k, asked, made);
-        k += 1;
-        next = put_line(out, next, row(k as u64, width, ran));
-    }
-    next
-}
-
 // Whether the budget ended the run of some box.
 fn some_halted(file: &[u8], count: usize, asked: Asked, made: Listing) -> bool {
     let mut k = 0;
@@ -269,44 +236,50 @@ fn some_halted(file: &[u8], count: usize, asked: Asked, made: Listing) -> bool {
     false
 }
 
-// A line of words for each box, so that they are a file to go on with.
-fn put_lines(
+fn line_for(k: usize, width: u8, ran: Ran, on: bool) -> Pen {
+    if on {
+        return put_words(at_start(), ran);
+    }
+    row(k as u64, width, ran)
+}
+
+// A line for each box: its row, or the words to go on with.
+fn put_each(
     out: &mut [u8],
     at: usize,
     file: &[u8],
     count: usize,
     asked: Asked,
+    width: u8,
     made: Listing,
+    on: bool,
 ) -> usize {
     let mut next = at;
     let mut k = 0;
     while k < count {
         let ran = run_of(file, k, asked, made);
-        next = put_line(out, next, put_words(at_start(), ran));
         k += 1;
+        next = put_line(out, next, line_for(k, width, ran, on));
     }
     next
 }
 
-// What stands below the rows, where some box was halted.
+// What stands below the rows, where some box was halted: an empty line, and a file to go on with.
 fn put_halted(
     out: &mut [u8],
     at: usize,
     file: &[u8],
     count: usize,
     asked: Asked,
+    width: u8,
     made: Listing,
 ) -> usize {
-    if !some_halted(file, count, asked, made) {
-        return at;
-    }
-    let halted = put(
+    let above = put(
         at_start(),
-        b"halted: go on with boxes=FILE alone, where FILE has these lines",
+        b"\nhalted: go on with boxes=FILE alone, where FILE has these lines",
     );
-    let next = put_line(out, at, at_start());
-    let next = put_line(out, next, halted);
-    put_lines(out, next, file, count, asked, made)
+    let next = put_line(out, at, above);
+    put_each(out, next, file, count, asked, width, made, true)
 }
 
 // What stands above the rows.
@@ -328,19 +301,22 @@ fn put_table(
     recipe: Recipe,
     made: Listing,
 ) -> usize {
+    let width = recipe.width;
     let next = put_top(out, recipe, made.count, count);
-    let next = put_rows(out, next, file, count, asked, recipe.width, made);
-    put_halted(out, next, file, count, asked, made)
+    let next = put_each(out, next, file, count, asked, width, made, false);
+    if some_halted(file, count, asked, made) {
+        return put_halted(out, next, file, count, asked, width, made);
+    }
+    next
 }
 
 // More boxes than a rack has.
 fn put_refusal(out: &mut [u8]) -> usize {
-    let advice = put(
+    let both = put(
         at_start(),
-        b"Cut the file in two: a rack has at most 64 boxes.",
+        b"refused\t15\nCut the file in two: a rack has at most 64 boxes.",
     );
-    let next = put_line(out, 0, put(at_start(), b"refused\t15"));
-    put_line(out, next, advice)
+    put_line(out, 0, both)
 }
 
 // The boxes are counted before their words are looked at.
@@ -362,7 +338,8 @@ fn put_rack(
     put_table(out, file, count, asked, recipe, made)
 }
 
-fn read_file(name: &[u8], file: &mut [u8]) -> Input
+// The bytes of a file, as far as there is room.
+fn open_and_read(name: &[u8], file: &mut [u8]) -> Input
     ensures { λ r. ⌜ Counts (r .n) (now (file .exit)) ⌝ }
 {
     let fd = os::open_read(name);
@@ -385,18 +362,32 @@ fn report_long(name: &[u8]) {
     tell(b" has more than 16384 bytes, which is 64 lines of 255 with their line ends\n");
 }
 
+// The same; where it can't be read or is too long that is reported.
+fn read_file(name: &[u8], file: &mut [u8]) -> Input
+    ensures { λ r. ⌜ Counts (r .n) (now (file .exit)) ⌝ }
+{
+    let input = open_and_read(name, file);
+    if !input.ok {
+        report_failed(name);
+        return input;
+    }
+    let n = input.n;
+    if FILE_MAX < n {
+        report_long(name);
+    }
+    Input {
+        n,
+        ok: n <= FILE_MAX,
+    }
+}
+
 fn put_named(out: &mut [u8], name: &[u8], asked: Asked, recipe: Recipe, made: Listing) -> usize {
     let mut file = [0u8; FILE_ROOM];
     let input = read_file(name, &mut file);
-    let n = input.n;
     if !input.ok {
-        report_failed(name);
         return 0;
     }
-    if FILE_MAX < n {
-        report_long(name);
-        return 0;
-    }
+    let n = input.n;
     put_rack(out, name, &file[..n], asked, recipe, made)
 }
 

@@ -368,7 +368,7 @@ pub(crate) fn with_text(said: Said, text: &[u8], things: usize) -> Said {
     }
 }
 
-fn tell(text: &[u8]) {
+pub(crate) fn tell(text: &[u8]) {
     io::write_all(STDERR_FILENO, text);
 }
 
