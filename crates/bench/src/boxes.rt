@@ -1,5 +1,5 @@
-// A rack of boxes: a row for each, which is one run on it. A file has a line for each box, of words as the program itself takes
-// them, with blanks or tabs between; what a line does not say the program's own words say for every box.
+// A rack of boxes: a row for each, which is the run on it alone. A file has a line for each box, of words as the program itself
+// takes them, with blanks or tabs between; what a line does not say, the program's own words say for every box.
 ghost use Prim.Native.Nat.{_≤_};
 ghost use lib.ListN.{length};
 ghost use Rattle.io.specs.Counts.{Counts};
@@ -41,11 +41,11 @@ use recipes::types::Recipe;
 use step::runs::Ran;
 use text::types::NEWLINE;
 
-// The most boxes of a rack. `put_refusal` has it written out.
+// The most boxes of a rack; `put_refusal` and `report_long` have it written out.
 const BOXES_MAX: usize = 64;
 
-// The most bytes of a file, as many as `BOXES_MAX` lines of 255 and their line ends; `report_long` has it written out. There is
-// room for one byte more, so that a longer file is told.
+// The most bytes of a file, as many as `BOXES_MAX` lines of 255 and their line ends; `report_long` has it written out. One byte
+// more has room, by which a longer file is told.
 const FILE_MAX: usize = 16384;
 
 const FILE_ROOM: usize = FILE_MAX + 1;
@@ -59,7 +59,7 @@ const STEPS: usize = 29;
 
 const CLOCKS: usize = 37;
 
-// What the words of a line ask for. The last word that was read stands from `at` to `end`, and may not be taken.
+// What the words of a line ask for, and how the last that was read was taken, which stands from `at` to `end`.
 struct Line {
     asked: Asked,
     last: Taking,
@@ -362,7 +362,7 @@ fn report_long(name: &[u8]) {
     tell(b" has more than 16384 bytes, which is 64 lines of 255 with their line ends\n");
 }
 
-// The same; where it can't be read or is too long that is reported.
+// The same. Where it can't be read or is too long, that is reported, and `ok` is false.
 fn read_file(name: &[u8], file: &mut [u8]) -> Input
     ensures { λ r. ⌜ Counts (r .n) (now (file .exit)) ⌝ }
 {

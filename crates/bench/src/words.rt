@@ -34,7 +34,7 @@ pub(crate) struct Words {
     pub understood: bool,
 }
 
-// How a word was taken: it is not understood, or gives a thing that was given before.
+// How a word was taken: not where it is not understood, or gives a thing that was given before.
 pub(crate) enum Taking {
     Taken,
     Unknown,
