@@ -23,6 +23,8 @@ TEXT_MAX = 1024  # bytes that a program reads of its input
 LINES_MAX = 32  # lines of a recipe
 STEPS_MAX = 256  # the most steps of a recipe
 PLACE_DIGITS = 10  # digits of a place that bench is asked to start from
+BOXES_MAX = 64  # boxes of a rack
+FILE_MAX = 16384  # bytes of a file of boxes
 REGISTERS = 8  # of each kind
 WIDTHS = (1, 2, 4)  # registers of a number
 BITS = 32  # bits of a register
@@ -30,7 +32,7 @@ TOP = BITS - 1  # its highest bit
 WORD = (1 << BITS) - 1  # the greatest value of a register, and the greatest step budget
 READER_REFUSALS = 4, 6, 7, 8, 11, 12, 13, 14
 BAD_WIDTH, NO_SUCH_NUMBER, ONTO_ITSELF, TOO_MANY_LINES, UNKNOWN_VERB, WRONG_FIELDS, NOT_A_DIGIT, NO_BYTE_10 = READER_REFUSALS
-PAST_THE_END = 10
+PAST_THE_END, TOO_MANY_BOXES = 10, 15
 FLAGS = "XNZVC"
 X, N, Z, V, C = 16, 8, 4, 2, 1
 XC, ALL = X | C, X | N | Z | V | C
@@ -245,11 +247,112 @@ def plain_rows(w, lines, asked, first=0):
 
 
 def told(text, answer, *more):
-    """What a program prints of a text: one of these two, or the text's refusal."""
+    """What a program prints of a text: one of these, or the text's refusal."""
     try:
         return answer(*read(text), *more)
     except Refused as refused:
         return str(refused)
+
+
+# ---- a rack of boxes: what the program bench prints with the word boxes=FILE
+
+BOX_WORD = re.compile(rb"([DA])([0-7])=([0-9A-Fa-f]{1,8})|([XNZVC])=([01])|from=([0-9]{1,10})")
+BOX_FORMS = b" is not understood: D0=HEX..D7=HEX, A0=HEX..A7=HEX, X= N= Z= V= C= 0 or 1, from=PLACE"
+AGAIN = b" is a second word for the same thing: each is given once\n"
+BOX_HEADING = "box  end         place  steps  clocks  X N Z V C"
+GO_ON = "halted: go on with boxes=FILE alone, where FILE has these lines"
+
+
+class NotTaken(Exception):
+    """What bench says of a file of boxes that it does not take, on standard error."""
+
+
+def box_of(asked, line, where):
+    """What a box's line asks for, beside what all boxes are asked."""
+    box, things = asked._replace(data=list(asked.data), address=list(asked.address)), set()
+    for word in re.findall(rb"[^ \t]+", line):
+        found, thing = BOX_WORD.fullmatch(word), word.split(b"=")[0]
+        if not found:
+            raise NotTaken(where + word + BOX_FORMS + b"\n")
+        if thing in things:
+            raise NotTaken(where + word + AGAIN)
+        things.add(thing)
+        kind, r, value, flag, digit, place = found.groups()
+        if kind:
+            (box.data if kind == b"D" else box.address)[int(r)] = int(value, 16)
+        elif flag:
+            bit = 1 << FLAGS[::-1].index(flag.decode())
+            box = box._replace(flags=box.flags & ~bit | bit * int(digit))
+        else:
+            box = box._replace(start=int(place))
+    return box
+
+
+def boxes_of(file, asked, name):
+    """What each box of a file is asked. Nothing is asked of the words where there are too many lines."""
+    if len(file) > FILE_MAX:
+        raise NotTaken(b"bench: %s has more than %d bytes, which is %d lines of 255 with their line ends\n" % (name, FILE_MAX, BOXES_MAX))
+    *lines, last = file.split(b"\n")
+    lines += [last] * bool(last)
+    if len(lines) > BOXES_MAX:
+        raise Refused(TOO_MANY_BOXES)
+    return [box_of(asked, line, b"bench: line %d of %s: " % (k, name)) for k, line in enumerate(lines, 1)]
+
+
+def plural(n, what):
+    return f"{n} {what}" + "s" * (n != 1)
+
+
+def table_top(w, lines):
+    """The first two lines of a table: the sizes, and which registers the numbers are."""
+    names = [" ".join([f"{k} is", *(f"D{k * w + i}" for i in reversed(range(w)))]) for k in range(REGISTERS // w)]
+    return f"width {w}, {plural(len(lines), 'line')}, {plural(len(listing(w, lines)), 'step')}", "numbers: " + ", ".join(names)
+
+
+def settings(letter, registers):
+    return [f"{letter}{r}={value:08X}" for r, value in enumerate(registers) if value]
+
+
+def words_on(last, address):
+    """The words to go on with from where a run stands."""
+    flags = [f"{name}=1" for name, digit in zip(FLAGS, digits(last.flags)) if digit == "1"]
+    return [f"from={last.place}", *settings("D", last.data), *settings("A", address), *flags]
+
+
+def end_of(steps, asked, last):
+    return f"Refused {PAST_THE_END}" if asked.start > len(steps) else "Finished" if last.place == len(steps) else "Budget"
+
+
+def box_row(k, w, end, done, last):
+    """The figures stand to the right below their headings, behind two blanks at least."""
+    row = f"{k:3}  {end}"
+    for name, figure in zip(["place", "steps", "clocks"], [last.place, done, last.clocks]):
+        row += f"  {figure}".rjust(BOX_HEADING.index(name) + len(name) - len(row))
+    numbers = [" ".join(f"{word:08X}" for word in reversed(last.data[low : low + w])) for low in range(0, REGISTERS, w)]
+    return "  ".join([row, " ".join(digits(last.flags)), *numbers])
+
+
+def rack(w, lines, boxes):
+    """The whole table of a rack, each box a run of its own with the whole budget."""
+    steps = listing(w, lines)
+    runs = [(asked, run(steps, asked)) for asked in boxes]
+    ends = [end_of(steps, asked, standings[-1]) for asked, standings in runs]
+    sizes, numbers = table_top(w, lines)
+    heading = "  ".join([BOX_HEADING, *(f"number {k}".ljust(9 * w - 1) for k in range(REGISTERS // w))]).rstrip()
+    rows = [box_row(k, w, end, len(standings) - 1, standings[-1]) for k, (end, (_, standings)) in enumerate(zip(ends, runs), 1)]
+    halted = ["", GO_ON, *(" ".join(words_on(standings[-1], asked.address)) for asked, standings in runs)] if "Budget" in ends else []
+    text = [f"{sizes}, {len(boxes)} box{'es' * (len(boxes) != 1)}", numbers, "", heading, *rows, *halted]
+    return "".join(line + "\n" for line in text)
+
+
+def rack_told(w, lines, asked, name, file):
+    """What bench prints of a recipe that is accepted, and says on standard error."""
+    try:
+        return rack(w, lines, boxes_of(file, asked, name)).encode(), b""
+    except NotTaken as cause:
+        return b"", cause.args[0]
+    except Refused as refused:
+        return str(refused).encode() + b"Cut the file in two: a rack has at most %d boxes.\n" % BOXES_MAX, b""
 
 
 # ---- random recipes, and registers
@@ -323,12 +426,12 @@ def damaged(rng, text):
 
 # ---- words for the program bench
 
-WORD_BYTES = 64  # of a longer word it says only that it is longer
+WORD_BYTES = 1024  # of a longer word it says only that it is longer
 BAD_WORDS = [
     "D8=1", "A8=0", "D9=1", "D0=", "D0", "=1", "", "=", "D=1", "D00=1", "D10=1", "d0=1", "B0=1", "D0=123456789", "A7=G", "D1= 1", "D1=0x1",
     "D1=-1", "X=2", "X=", "X=00", "x=1", "Y=1", "XN=1", "T=1", "from", "from=", "from=-1", "from=12345678901", "From=1", "from=A", "steps=",
     "steps=+1", f"steps={WORD + 1}", "steps=9999999999", "steps=00000000001", "step=1", "Rows", "rows=1", "row", "rowss", "-h", "D0=1=",
-    "y" * WORD_BYTES, "y" * (WORD_BYTES + 1), "y" * 5000, "D0=" + "0" * 90, "caf\u00e9=1", "\u00e9=1", "D\u00b2=1",
+    "boxes", "boxes=", "Boxes=1", "box=1", "y" * WORD_BYTES, "y" * (WORD_BYTES + 1), "y" * 5000, "D0=" + "0" * 90, "caf\u00e9=1", "\u00e9=1", "D\u00b2=1",
 ]
 
 
@@ -357,6 +460,19 @@ def words_for(rng, asked):
     words = [f"{name}={text}" for name, value, usual, text in known if value != usual or not rng.randrange(4)]
     rng.shuffle(words)
     return words
+
+
+def some_box(rng, w, steps):
+    """A line of a file of boxes: some of the words that it may have, blanks and tabs between, sometimes at its ends; or nothing at all."""
+    words = [word for word in words_for(rng, some_asked(rng, w, steps)) if not word.startswith("steps=")]
+    parts = [rng.choice([" ", " ", "\t", "  ", "\t ", " \t\t"]) + word for word in rng.sample(words, rng.choice([len(words), rng.randint(0, len(words))]))]
+    return rng.choice(["", "".join(parts), "".join(parts).strip(), "".join(parts).strip(), "".join(parts) + rng.choice([" ", "\t"])]).encode()
+
+
+def some_boxes(rng, w, steps):
+    """A file of boxes: none, one, few, as many as there may be, or one more; the last line with its byte 10, or without."""
+    count = rng.choice([0, 1, 2, 3, rng.randint(4, 12), BOXES_MAX, BOXES_MAX + 1])
+    return b"\n".join(some_box(rng, w, steps) for _ in range(count)) + b"\n" * (count > 0 and rng.randrange(4) > 0)
 
 
 # ---- a tool's words, and the programs that it starts

@@ -2,10 +2,12 @@
 use crate::pen::BLANK;
 use crate::pen::Pen;
 use crate::pen::at_start;
+use crate::pen::line_start;
 use crate::pen::put;
 use crate::pen::put_byte;
 use crate::pen::put_count;
 use crate::pen::put_decimal;
+use crate::pen::put_fields;
 use crate::pen::put_hex;
 use crate::pen::put_line;
 use alu::types::Flags;
@@ -55,19 +57,33 @@ fn put_set_flags(pen: Pen, flags: Flags) -> Pen {
     put_set_flag(next, b'C', flags.c)
 }
 
-fn put_end_name(pen: Pen, end: End) -> Pen {
+fn kind(end: End) -> usize {
     match end {
-        End::Finished => put(pen, b"Finished"),
-        End::Budget => put(pen, b"Budget"),
-        End::Trapped(trap, _) => {
-            let next = put(pen, b"Trapped with class ");
-            put_decimal(next, class(trap) as u64)
-        }
-        End::Refused(fault, _) => {
-            let next = put(pen, b"Refused with number ");
-            put_decimal(next, number(fault) as u64)
-        }
+        End::Finished => 0,
+        End::Budget => 1,
+        End::Trapped(_, _) => 2,
+        End::Refused(_, _) => 3,
     }
+}
+
+// A trap's class or a refusal's number; neither is 0.
+fn number_of(end: End) -> u32 {
+    match end {
+        End::Finished => 0,
+        End::Budget => 0,
+        End::Trapped(trap, _) => class(trap),
+        End::Refused(fault, _) => number(fault),
+    }
+}
+
+// An end by its name, which is one of four lines, and its number if it has one.
+pub(crate) fn put_end(pen: Pen, names: &[u8], end: End) -> Pen {
+    let next = put_fields(pen, names, line_start(names, kind(end)));
+    let n = number_of(end);
+    if n == 0 {
+        return next;
+    }
+    put_decimal(next, n as u64)
 }
 
 // The place of a trap or a refusal, and otherwise the next one.
@@ -93,7 +109,11 @@ fn put_counts(pen: Pen, steps: u32, clocks: u64) -> Pen {
 
 fn end_line(ran: Ran) -> Pen {
     let end = ran.end;
-    let next = put_end_name(at_start(), end);
+    let next = put_end(
+        at_start(),
+        b"Finished\nBudget\nTrapped with class \nRefused with number \n",
+        end,
+    );
     let next = put_place(next, end_place(ran));
     put_counts(next, ran.steps, ran.clocks)
 }
@@ -109,14 +129,19 @@ fn put_state(pen: Pen, state: State) -> Pen {
 }
 
 // The words to go on with.
-fn halted_line(ran: Ran) -> Pen {
+pub(crate) fn put_words(pen: Pen, ran: Ran) -> Pen {
     let state = ran.state;
-    let next = put(at_start(), b"halted: go on with from=");
+    let next = put(pen, b"from=");
     let next = put_decimal(next, ran.next as u64);
     put_state(next, state)
 }
 
-fn is_budget(end: End) -> bool {
+fn halted_line(ran: Ran) -> Pen {
+    let next = put(at_start(), b"halted: go on with ");
+    put_words(next, ran)
+}
+
+pub(crate) fn is_budget(end: End) -> bool {
     if let End::Budget = end { true } else { false }
 }
 

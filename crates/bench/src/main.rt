@@ -1,7 +1,9 @@
 // Shows a recipe's listing running. The recipe's text is the first `TEXT_MAX` bytes of standard input; the words that the
 // program is started with give the registers and flags, the start place and the number of steps (words.rt). Standard
-// output gets a table for people (table.rt) or plain rows (rows.rt), and of a refused recipe its refusal, with the table's
-// place taken by what is wrong (slips.rt). Where a word is not understood, or reading or writing fails, standard error says so.
+// output gets a table for people (table.rt) or plain rows (rows.rt), or, with a file of boxes, a row for each box (boxes.rt);
+// and of a refused recipe its refusal, with the table's place taken by what is wrong (slips.rt). Where a word is not
+// understood, or reading or writing fails, standard error says so.
+mod boxes;
 mod carry;
 mod course;
 mod ending;
@@ -14,6 +16,7 @@ mod table;
 mod words;
 
 use input::read_text;
+use libc::STDIN_FILENO;
 use libc::STDOUT_FILENO;
 use pen::within;
 use recipes::printer::print_refusal;
@@ -23,13 +26,16 @@ use recipes::types::Recipe;
 use recipes::types::TEXT_MAX;
 use recipes::types::is_nothing;
 use slips::put_slip;
-use words::Asked;
+use words::Words;
 use words::read_words;
 
 // A recipe that was read is always translated.
-fn put_run(out: &mut [u8], asked: Asked, text: &[u8], recipe: Recipe) -> usize {
+fn put_run(out: &mut [u8], words: Words, text: &[u8], recipe: Recipe) -> usize {
+    let asked = words.asked;
     let made = translate_array(recipe);
-    if asked.rows {
+    if 0 < words.file {
+        boxes::put_run(out, asked, words.file, recipe, made)
+    } else if asked.rows {
         rows::put_run(out, asked, made)
     } else {
         table::put_run(out, asked, text, recipe, made)
@@ -37,11 +43,13 @@ fn put_run(out: &mut [u8], asked: Asked, text: &[u8], recipe: Recipe) -> usize {
 }
 
 // Room for any answer: a table has a row of at most 151 bytes for each of `STEPS_MAX` steps and four more, and less than 3,000
-// bytes above and below them; plain rows are one more than the steps, of 158 bytes.
+// bytes above and below them; plain rows are one more than the steps, of 158 bytes; 64 boxes have a row of at most 140 bytes and
+// words of at most 228, and less than 1,000 bytes above them.
 const ROOM: usize = 65536;
 
 // The whole answer to a text.
-fn answer(out: &mut [u8], asked: Asked, text: &[u8]) -> usize {
+fn answer(out: &mut [u8], words: Words, text: &[u8]) -> usize {
+    let asked = words.asked;
     let reading = read(text);
     let refused = reading.refused;
     let recipe = reading.recipe;
@@ -52,7 +60,7 @@ fn answer(out: &mut [u8], asked: Asked, text: &[u8]) -> usize {
         }
         return put_slip(out, next, text, refused);
     }
-    put_run(out, asked, text, recipe)
+    put_run(out, words, text, recipe)
 }
 
 fn main() {
@@ -60,16 +68,15 @@ fn main() {
     if !words.understood {
         return;
     }
-    let asked = words.asked;
     let mut text = [0u8; TEXT_MAX];
-    let input = read_text(&mut text);
+    let input = read_text(STDIN_FILENO, &mut text);
     if !input.ok {
         os::fail(b"bench: standard input");
         return;
     }
     let n = input.n;
     let mut out = [0u8; ROOM];
-    let m = answer(&mut out, asked, &text[..n]);
+    let m = answer(&mut out, words, &text[..n]);
     let m = within(m, &out);
     if !io::write_all(STDOUT_FILENO, &out[..m]) {
         os::fail(b"bench: standard output");

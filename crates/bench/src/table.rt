@@ -66,7 +66,7 @@ fn value_column(width: u8) -> usize {
     WORDS + 1 + 9 * width as usize
 }
 
-fn sizes(width: u8, lines: usize, steps: usize) -> Pen {
+pub(crate) fn sizes(width: u8, lines: usize, steps: usize) -> Pen {
     let next = put(at_start(), b"width ");
     let next = put_decimal(next, width as u64);
     let next = put_count(next, b", ", lines as u64, b" line");
@@ -74,7 +74,7 @@ fn sizes(width: u8, lines: usize, steps: usize) -> Pen {
 }
 
 // Which registers the numbers are.
-fn numbering(width: u8) -> Pen {
+pub(crate) fn numbering(width: u8) -> Pen {
     let mut next = put(at_start(), b"numbers: 0 is");
     next = put_names(next, width, 0);
     let mut k = 1;

@@ -1,12 +1,23 @@
-// The words that the program is started with.
+// The words that the program is started with, and those of a box's line (boxes.rt).
 ghost use Prim.Native.Nat.{_<_, _≤_};
 use alu::types::Flags;
 use check::same;
 use libc::STDERR_FILENO;
 use step::registers::State;
 
-// The things that a word gives: the registers, the flags, `from`, `steps` and `rows`. (In contracts below it is 24.)
-const THINGS: usize = 24;
+// The things that a word gives have numbers: those of a box first, which are the registers, the flags and `from`; then `steps`,
+// `rows` and `boxes`, which the program's own words alone give; and one for a word that is not understood. (In contracts
+// below `THINGS` is 26.)
+pub(crate) const OF_A_BOX: usize = 22;
+
+const OF_THE_PROGRAM: usize = 25;
+
+const THINGS: usize = 26;
+
+const BOXES: usize = 24;
+
+// Room for a word; `with_argument` has it written out.
+pub(crate) const WORD_ROOM: usize = 1024;
 
 // What is asked for: the state to start with, the start place, the steps that may be done, and whether as plain rows.
 pub(crate) struct Asked {
@@ -16,9 +27,25 @@ pub(crate) struct Asked {
     pub rows: bool,
 }
 
+// All words of the program: `file` is the number of the word that names a file of boxes, 0 where none does.
 pub(crate) struct Words {
     pub asked: Asked,
+    pub file: usize,
     pub understood: bool,
+}
+
+// How a word was taken: not where it is not understood, or gives a thing that was given before.
+pub(crate) enum Taking {
+    Taken,
+    Unknown,
+    Again,
+}
+
+// What the words so far ask for, the things that they gave, and how the last of them was taken.
+pub(crate) struct Said {
+    pub asked: Asked,
+    pub given: [bool; THINGS],
+    pub last: Taking,
 }
 
 // What one word says. A register comes with its number and its value, a flag with its letter and whether it is set.
@@ -29,6 +56,7 @@ enum Word {
     From(usize),
     Steps(u32),
     Rows,
+    Boxes,
     Unknown,
 }
 
@@ -107,6 +135,14 @@ fn steps_word(value: &[u8]) -> Word {
     Word::Steps(count as u32)
 }
 
+// The file's name is taken from the word itself, where it is wanted.
+fn boxes_word(name: &[u8]) -> Word {
+    if name.len() == 0 {
+        return Word::Unknown;
+    }
+    Word::Boxes
+}
+
 fn is_flag(name: u8) -> bool {
     (name == b'X') | (name == b'N') | (name == b'Z') | (name == b'V') | (name == b'C')
 }
@@ -157,6 +193,9 @@ fn read_word(word: &[u8]) -> Word {
     if same(name, b"steps") {
         return steps_word(value);
     }
+    if same(name, b"boxes") {
+        return boxes_word(value);
+    }
     if name.len() == 1 {
         return flag_word(name[0], value);
     }
@@ -166,30 +205,9 @@ fn read_word(word: &[u8]) -> Word {
     Word::Unknown
 }
 
-fn report(word: &[u8], why: &[u8]) {
-    io::write_all(STDERR_FILENO, b"bench: ");
-    io::write_all(STDERR_FILENO, word);
-    io::write_all(STDERR_FILENO, why);
-}
-
-fn report_unknown(word: &[u8]) {
-    report(
-        word,
-        b" is not understood: D0=HEX..D7=HEX, A0=HEX..A7=HEX, X= N= Z= V= C= 0 or 1, from=PLACE, steps=COUNT, rows\n",
-    );
-}
-
-fn is_unknown(word: Word) -> bool {
-    if let Word::Unknown = word {
-        true
-    } else {
-        false
-    }
-}
-
 // The number of a flag among the things.
 fn flag_thing(name: u8) -> usize
-    ensures { λ r. ⌜ r < 24 ⌝ }
+    ensures { λ r. ⌜ r < 26 ⌝ }
 {
     match name {
         b'X' => 16,
@@ -202,7 +220,7 @@ fn flag_thing(name: u8) -> usize
 
 // The number of the thing that a word gives.
 fn thing(word: Word) -> usize
-    ensures { λ r. ⌜ r < 24 ⌝ }
+    ensures { λ r. ⌜ r < 26 ⌝ }
 {
     match word {
         Word::Data(r, _) => r % 8,
@@ -211,31 +229,9 @@ fn thing(word: Word) -> usize
         Word::From(_) => 21,
         Word::Steps(_) => 22,
         Word::Rows => 23,
-        Word::Unknown => 0,
+        Word::Boxes => BOXES,
+        Word::Unknown => OF_THE_PROGRAM,
     }
-}
-
-// Word i. One that is not understood, or gives a thing that is given, is reported.
-fn word_at(i: usize, given: [bool; THINGS]) -> Word {
-    let mut buffer = [0u8; 64];
-    let n = os::arg(i, &mut buffer);
-    if os::errno() != 0 {
-        report_unknown(b"a word of more than 64 bytes");
-        return Word::Unknown;
-    }
-    let word = read_word(&buffer[..n]);
-    if is_unknown(word) {
-        report_unknown(&buffer[..n]);
-        return word;
-    }
-    if given[thing(word)] {
-        report(
-            &buffer[..n],
-            b" is a second word for the same thing: each is given once\n",
-        );
-        return Word::Unknown;
-    }
-    word
 }
 
 fn written(registers: [u32; 8], r: usize, value: u32) -> [u32; 8] {
@@ -325,30 +321,128 @@ fn with_word(asked: Asked, word: Word) -> Asked {
         Word::From(place) => asking(state, place, steps, rows),
         Word::Steps(count) => asking(state, from, count, rows),
         Word::Rows => asking(state, from, steps, true),
+        Word::Boxes => asked,
         Word::Unknown => asked,
     }
 }
 
-// All words; reading ends at the first that is not understood, or given a second time. Word 0 is the program's own name.
-pub(crate) fn read_words() -> Words {
-    let count = os::arg_count();
-    let mut asked = unasked();
-    let mut given = [false; THINGS];
-    let mut i = 1;
-    while i < count {
-        let word = word_at(i, given);
-        if is_unknown(word) {
-            return Words {
-                asked,
-                understood: false,
-            };
-        }
-        given[thing(word)] = true;
-        asked = with_word(asked, word);
-        i += 1;
+// No word yet, behind what is asked for already.
+pub(crate) fn unsaid(asked: Asked) -> Said {
+    Said {
+        asked,
+        given: [false; THINGS],
+        last: Taking::Taken,
+    }
+}
+
+fn how_taken(known: bool, given: bool) -> Taking {
+    if !known {
+        return Taking::Unknown;
+    }
+    if given {
+        return Taking::Again;
+    }
+    Taking::Taken
+}
+
+pub(crate) fn is_taken(last: Taking) -> bool {
+    if let Taking::Taken = last {
+        true
+    } else {
+        false
+    }
+}
+
+// One word more, of those that give one of the first `things`.
+pub(crate) fn with_text(said: Said, text: &[u8], things: usize) -> Said {
+    let asked = said.asked;
+    let mut given = said.given;
+    let word = read_word(text);
+    let k = thing(word);
+    let last = how_taken(k < things, given[k]);
+    given[k] = true;
+    Said {
+        asked: with_word(asked, word),
+        given,
+        last,
+    }
+}
+
+pub(crate) fn tell(text: &[u8]) {
+    io::write_all(STDERR_FILENO, text);
+}
+
+// Says why a word was not taken. Where it stands is said before.
+pub(crate) fn report(text: &[u8], last: Taking, things: usize) {
+    tell(text);
+    if let Taking::Again = last {
+        tell(b" is a second word for the same thing: each is given once\n");
+        return;
+    }
+    tell(b" is not understood: D0=HEX..D7=HEX, A0=HEX..A7=HEX, X= N= Z= V= C= 0 or 1, from=PLACE");
+    if OF_A_BOX < things {
+        tell(b", steps=COUNT, rows, boxes=FILE");
+    }
+    tell(b"\n");
+}
+
+// One word of the program more. One that is not taken is reported.
+fn with_told(said: Said, text: &[u8]) -> Said {
+    let next = with_text(said, text, OF_THE_PROGRAM);
+    let last = next.last;
+    if !is_taken(last) {
+        tell(b"bench: ");
+        report(text, last, OF_THE_PROGRAM);
+    }
+    next
+}
+
+// Word i of the program more. What is said of one that is too long is no word either.
+fn with_argument(said: Said, i: usize) -> Said {
+    let mut buffer = [0u8; WORD_ROOM];
+    let n = os::arg(i, &mut buffer);
+    if os::errno() != 0 {
+        return with_told(said, b"a word of more than 1024 bytes");
+    }
+    with_told(said, &buffer[..n])
+}
+
+// All words were taken. Plain rows are of one run, so that they do not go with boxes.
+fn judged(asked: Asked, file: usize) -> Words {
+    let both = asked.rows & (0 < file);
+    if both {
+        tell(b"bench: rows is not understood with boxes=FILE: it shows one run\n");
     }
     Words {
         asked,
-        understood: true,
+        file,
+        understood: !both,
     }
+}
+
+// All words; reading ends at the first that is not taken. Word 0 is the program's own name.
+pub(crate) fn read_words() -> Words {
+    let count = os::arg_count();
+    let mut said = unsaid(unasked());
+    let mut file = 0;
+    let mut i = 1;
+    while i < count {
+        said = with_argument(said, i);
+        let last = said.last;
+        let given = said.given;
+        if !is_taken(last) {
+            let asked = said.asked;
+            return Words {
+                asked,
+                file,
+                understood: false,
+            };
+        }
+        if given[BOXES] & (file == 0) {
+            file = i;
+        }
+        i += 1;
+    }
+    let asked = said.asked;
+    judged(asked, file)
 }

@@ -2,6 +2,7 @@
 // `TEXT_MAX` bytes of the input are read: a longer text meets its refusal within them. Where reading or writing fails, standard
 // error says why; the exit status is 0 all the same, since the language has no other.
 use input::read_text;
+use libc::STDIN_FILENO;
 use libc::STDOUT_FILENO;
 use recipes::types::PRINT_MAX;
 use recipes::types::TEXT_MAX;
@@ -20,7 +21,7 @@ fn answer(text: &[u8], out: &mut [u8; PRINT_MAX]) -> usize
 
 fn main() {
     let mut text = [0u8; TEXT_MAX];
-    let input = read_text(&mut text);
+    let input = read_text(STDIN_FILENO, &mut text);
     if !input.ok {
         os::fail(b"recipe: standard input");
         return;

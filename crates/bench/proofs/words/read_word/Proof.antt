@@ -1,7 +1,7 @@
 -- `words::read_word` is safe: the mark stands within the word. Assumes nothing.
+use borrow.Author.Needs.{needs}
 use mathlib.Core.Path.{sym}
 use lib.Seq.{length-take-le}
-use borrow.Author.Needs.{needs}
 use Rattle.bench.proofs.words.read_word.Statement.{statement}
 use Rattle.bench.proofs.words.read_word.Tie as tie
 
@@ -14,5 +14,5 @@ read-word-spec =
     (tie.spec
     (search needs) (search needs) (λ c. search needs) (search needs) (λ c. search needs) slice-aggregate-name (search needs) (search needs)
     (search needs) (search needs) (search needs) (search needs) (search needs) (λ c. search needs) (search needs) (search needs) (search needs)
-    (λ c. search needs) (search needs) (search needs) (λ c. search needs) (search needs) (search needs) (search needs) (λ c. search needs)
-    (λ c. search needs))
+    (λ c. search needs) (search needs) (search needs) (search needs) (λ c. search needs) (search needs) (search needs) (λ c. search needs)
+    (search needs) (search needs) (search needs) (λ c. search needs) (λ c. search needs))
