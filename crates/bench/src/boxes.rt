@@ -38,15 +38,15 @@ use input::read_text;
 use libc::STDERR_FILENO;
 use recipes::types::Listing;
 use recipes::types::Recipe;
+use step::racks::BOXES_MAX;
+use step::racks::number;
+use step::racks::plan;
 use step::runs::Ran;
 use text::types::NEWLINE;
 
-// The most boxes of a rack; `put_refusal` and `report_long` have it written out.
-const BOXES_MAX: usize = 64;
-
-// The most bytes of a file, as many as `BOXES_MAX` lines of 255 and their line ends; `report_long` has it written out. One byte
-// more has room, by which a longer file is told.
-const FILE_MAX: usize = 16384;
+// The most bytes of a file: as many lines as a rack has boxes, of 255 bytes and a line end. `report_long` has both written out.
+// One byte more has room, by which a longer file is told.
+const FILE_MAX: usize = BOXES_MAX * 256;
 
 const FILE_ROOM: usize = FILE_MAX + 1;
 
@@ -310,16 +310,15 @@ fn put_table(
     next
 }
 
-// More boxes than a rack has.
-fn put_refusal(out: &mut [u8]) -> usize {
-    let both = put(
-        at_start(),
-        b"refused\t15\nCut the file in two: a rack has at most 64 boxes.",
-    );
-    put_line(out, 0, both)
+// More boxes than a rack has. It has `BOXES_MAX` written out.
+fn put_refusal(out: &mut [u8], refusal: u64) -> usize {
+    let next = put(at_start(), b"refused\t");
+    let next = put_decimal(next, refusal);
+    let next = put(next, b"\nCut the file in two: a rack has at most 64 boxes.");
+    put_line(out, 0, next)
 }
 
-// The boxes are counted before their words are looked at.
+// The boxes are counted before their words are looked at; each has a start place and a row.
 fn put_rack(
     out: &mut [u8],
     name: &[u8],
@@ -329,8 +328,11 @@ fn put_rack(
     made: Listing,
 ) -> usize {
     let count = count_lines(file);
-    if BOXES_MAX < count {
-        return put_refusal(out);
+    let racked = plan(count, count, count);
+    let fit = racked.fit;
+    let refusal = number(fit) as u64;
+    if refusal != 0 {
+        return put_refusal(out, refusal);
     }
     if !check_lines(name, file, count, asked) {
         return 0;
