@@ -3,10 +3,10 @@ ghost use mathlib.Core.Path.{_≡_};
 ghost use mathlib.Core.List.{map};
 ghost use Prim.Native.Nat.{_≤_, _*_, _+_};
 ghost use lib.ListN.{length, take};
-ghost use lib.Seq.{paste};
 ghost use Rattle.step.specs.Lent.{over};
 ghost use Rattle.recipe_calls.specs.Words.{stepWord, firstOf};
 ghost use Rattle.recipe_calls.specs.Calls.{eightAt};
+ghost use Rattle.recipe_calls.specs.Boxes.{eightPut};
 use super::words::no_step;
 use super::words::step_of;
 use super::words::step_word;
@@ -60,7 +60,7 @@ pub(crate) fn eight_at(row: &[u32], i: usize) -> [u32; 8]
 // Box i's words are written.
 pub(crate) fn put_eight(row: &mut [u32], i: usize, words: [u32; 8])
     requires { ⌜ 8 * i + 8 ≤ length (now row) ⌝ }
-    ensures { λ _. ⌜ now (row .exit) ≡ paste (now (row .entry)) (8 * i) words 8 ⌝ }
+    ensures { λ _. ⌜ now (row .exit) ≡ eightPut i words (now (row .entry)) ⌝ }
 {
     let at = 8 * i;
     let mut j = 0;
@@ -73,7 +73,7 @@ pub(crate) fn put_eight(row: &mut [u32], i: usize, words: [u32; 8])
 // And those of a row of what is told.
 pub(crate) fn put_told(row: &mut [u64], i: usize, words: [u64; 8])
     requires { ⌜ 8 * i + 8 ≤ length (now row) ⌝ }
-    ensures { λ _. ⌜ now (row .exit) ≡ paste (now (row .entry)) (8 * i) words 8 ⌝ }
+    ensures { λ _. ⌜ now (row .exit) ≡ eightPut i words (now (row .entry)) ⌝ }
 {
     let at = 8 * i;
     let mut j = 0;
