@@ -12,10 +12,11 @@ use contract.Lifetimes.{Lfts}
 use denote.Triple.Entry.{Args}
 use Rattle.step.proofs.Determined.{OneExit}
 use Rattle.text.specs.Wrote.{written}
-use Rattle.recipe_calls.specs.Calls.{rowLeft, stateLeft}
+use Rattle.recipe_calls.specs.Calls.{rowLeft, stateLeft, rackLeft}
 use Rattle.recipe_calls.proofs.Determined as of
 use Rattle.recipe_archive.proofs.recipe_translate as recipe-translate
 use Rattle.recipe_archive.proofs.listing_run as listing-run
+use Rattle.recipe_archive.proofs.rack_run as rack-run
 use Rattle.recipe_archive.proofs.listing_print as listing-print
 use Rattle.recipe_archive.proofs.recipe_answer as recipe-answer
 use Rattle.recipe_archive.proofs.recipe_run as recipe-run
@@ -29,6 +30,12 @@ module _ {M : Type 1} (𝓤 : URA M) (H : Heap 𝓤) (A : Atoms 𝓤) (mem : Mem
       (κs : Lfts 5) (a : Args listing-run.signature κs) →
       OneExit 𝓤 listing-run.ended κs a (λ r ws. stateLeft (ws .1 .0) (ws .1 .1 .0) (ws .1 .1 .1 .0) (ws .1 .1 .1 .1 .1 .1 .0)) (listing-run.clauses 𝓤 H A mem go κs a .ensures tt)
   listing-run-determined κs a = of.listing-run-determined 𝓤 H A mem go κs a
+
+  pub rack-run-determined :
+      (κs : Lfts 7) (a : Args rack-run.signature κs) →
+      OneExit 𝓤 rack-run.ended κs a (λ r ws. rackLeft (ws .1 .0) (ws .1 .1 .0) (ws .1 .1 .1 .0) (ws .1 .1 .1 .1 .1 .1 .0) (ws .1 .1 .1 .1 .1 .1 .1 .0))
+      (rack-run.clauses 𝓤 H A mem go κs a .ensures tt)
+  rack-run-determined κs a = of.rack-run-determined 𝓤 H A mem go κs a
 
   pub listing-print-determined :
       (κs : Lfts 2) (a : Args listing-print.signature κs) → OneExit 𝓤 listing-print.ended κs a (λ r ws. written (ws .1 .1 .0) r) (listing-print.clauses 𝓤 H A mem go κs a .ensures tt)
