@@ -34,6 +34,8 @@ pub mod rack_examples;
 pub mod rack_speed;
 #[cfg(feature = "step")]
 pub mod racks;
+#[cfg(feature = "step")]
+pub mod random_racks;
 pub mod recipes;
 pub mod refusals;
 pub mod shim;

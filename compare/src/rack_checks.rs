@@ -7,8 +7,9 @@ use crate::check::Tally;
 use crate::ported;
 use crate::rack_examples::{Example, Set, examples};
 use crate::racks::{Rack, Row, Words};
+use crate::random_racks::{junk_set, junk_slot, random_rack, random_words};
 use crate::recipes::{BOXES_MAX, SLOTS};
-use crate::steps::{Class, End, Fault, Flags, MIXED, Ran, State, Step, WILD, steps_of};
+use crate::steps::{End, Fault, Flags, Ran, State, Step};
 
 fn by_rack(rack: &Rack) -> ((u64, usize), Rack) {
     let mut left = rack.clone();
@@ -82,11 +83,13 @@ fn compare_parts(
     let mut gone_on = 0;
     for (i, (((_, before), (set, mut told)), (state, ran))) in boxes.enumerate() {
         let [end, _, _, _, steps, clocks] = *before;
-        gone_on += usize::from(end == 1 && told[4] > 0);
-        (told[4], told[5]) = (told[4] + steps, told[5] + clocks);
-        tally.count(end > 1 || (set, told) == (state, ran.told()), || {
-            format!("{}: box {i} halted after {first} and continued for {second}", rack.shown())
-        });
+        if end < 2 {
+            gone_on += usize::from(end == 1 && told[4] > 0);
+            (told[4], told[5]) = (told[4].wrapping_add(steps), told[5].wrapping_add(clocks));
+            tally.count((set, told) == (state, ran.told()), || {
+                format!("{}: box {i} halted after {first} and continued for {second}", rack.shown())
+            });
+        }
     }
     gone_on
 }
@@ -97,17 +100,6 @@ fn state_of(set: &Set) -> State {
 
 fn set_of(state: &State) -> Set {
     Set { d: state.d, a: state.a, flags: state.flags.ccr() }
-}
-
-pub fn junk_set(random: &mut Random) -> State {
-    let [d, a] = [(); 2].map(|()| std::array::from_fn(|_| random.number()));
-    State { d, a, flags: Flags::of(random.bits() as u8) }
-}
-
-fn junk_slot(random: &mut Random) -> Ran {
-    let [place, next] = [(); 2].map(|()| random.bits() as usize);
-    let (steps, clocks) = (random.bits() as u32, random.bits());
-    Ran { end: End::Trapped(Class::Below, place), next, steps, clocks }
 }
 
 fn rack_of(example: &Example, random: &mut Random) -> Rack {
@@ -142,96 +134,6 @@ fn compare_example(example: &Example, random: &mut Random, tally: &mut Tally) {
     tally.count(same && told == (example.number, example.run), || {
         format!("example \"{}\": the reading does otherwise", example.name)
     });
-}
-
-/// A row for so many: just enough, spare ones, or too few.
-fn length_for(needed: usize, random: &mut Random) -> usize {
-    match random.below(8) {
-        0 => random.below(needed.max(1)),
-        1..4 => needed + 1 + random.below(9),
-        _ => needed,
-    }
-}
-
-/// The same for words, eight for each box; too few often by less than a box.
-fn words_for(boxes: usize, random: &mut Random) -> usize {
-    match random.below(16) {
-        0 => (8 * boxes).saturating_sub(1 + random.below(7)),
-        1 => random.below(8 * boxes.max(1)),
-        2..8 => 8 * boxes + 1 + random.below(20),
-        _ => 8 * boxes,
-    }
-}
-
-fn random_sets(random: &mut Random) -> usize {
-    match random.below(16) {
-        0 => 0,
-        1 | 2 => 1,
-        3..9 => 2 + random.below(7),
-        9..11 => 9 + random.below(55),
-        11..13 => BOXES_MAX,
-        13 | 14 => BOXES_MAX + 1,
-        _ => BOXES_MAX + 2 + random.below(100),
-    }
-}
-
-fn random_listing(random: &mut Random) -> Vec<Step> {
-    let length = match random.below(16) {
-        0 => 0,
-        1..6 => 1 + random.below(8),
-        6..12 => random.below(65),
-        12..15 => random.below(SLOTS + 1),
-        _ => SLOTS + 1 + random.below(44),
-    };
-    steps_of(random.pick(&[MIXED, WILD]), random.bits() as u32).take(length).collect()
-}
-
-fn random_start(steps: usize, random: &mut Random) -> usize {
-    match random.below(16) {
-        0..6 => 0,
-        6..12 => random.below(steps + 1),
-        12..14 => steps,
-        14 => steps + 1 + random.below(300),
-        _ => random.pick(&[steps + 1, usize::MAX]),
-    }
-}
-
-fn random_budget(random: &mut Random) -> u32 {
-    match random.below(8) {
-        0 => 0,
-        1..4 => 1 + random.below(8) as u32,
-        4 => random.below(300) as u32,
-        _ => u32::MAX,
-    }
-}
-
-/// A set. A CHK of D7 by itself, which no step changes, traps in some boxes and not in others.
-fn random_set(random: &mut Random) -> State {
-    let mut set = junk_set(random);
-    if random.below(4) > 0 {
-        set.d[7] &= 0xFFFF_7FFF;
-    }
-    set
-}
-
-fn random_rack(random: &mut Random) -> Rack {
-    let (sets, listing) = (random_sets(random), random_listing(random));
-    let [starts, slots] = [(); 2].map(|()| length_for(sets, random));
-    Rack {
-        sets: Row::new(sets, sets, || random_set(random)),
-        starts: Row::new(starts, sets, || random_start(listing.len(), random)),
-        budget: random_budget(random),
-        slots: Row::new(slots, sets, || junk_slot(random)),
-        listing,
-    }
-}
-
-fn random_words(rack: &Rack, random: &mut Random) -> Words {
-    let mut words = Words::of(rack, || random.bits());
-    for length in [&mut words.d.length, &mut words.a.length, &mut words.answers.length] {
-        *length = words_for(rack.sets.length, random);
-    }
-    words
 }
 
 /// A random rack, the slots of its boxes as they are wanted, and how many boxes were halted and continued.
@@ -329,12 +231,8 @@ fn compare_halted(rack: &Rack, random: &mut Random, tally: &mut Tally) -> usize 
     let rack = Rack { listing, ..rack.clone() };
     let first = random.below(12) as u32;
     let budgets = [first, random.pick(&[0, 1, 5, 300, u32::MAX - first])];
-    compare_parts(&rack, budgets, boxes_by_rack, tally).min(compare_parts(
-        &rack,
-        budgets,
-        boxes_by_words,
-        tally,
-    ))
+    let gone_on = [boxes_by_rack, boxes_by_words].map(|run| compare_parts(&rack, budgets, run, tally));
+    gone_on[0].min(gone_on[1])
 }
 
 /// How often each of `KINDS` was met.

@@ -3,7 +3,7 @@
 use crate::c_functions::{box_run, rack_run};
 use crate::cases::Random;
 use crate::ported;
-use crate::rack_checks::junk_set;
+use crate::random_racks::junk_set;
 use crate::recipes::{BOXES_MAX, SLOTS};
 use crate::steps::{End, Flags, MIXED, Ran, State, Step, answered, registers, steps_of};
 use crate::timing::{Way, best};
@@ -11,7 +11,7 @@ use std::process::ExitCode;
 
 /// Kinds of steps, and lengths of listings.
 const KINDS: [(&str, u32); 2] = [("mixed", MIXED), ("ADD SUB CMP ADDX SUBX", 0)];
-const LENGTHS: [usize; 4] = [1, 4, 32, SLOTS];
+const LENGTHS: [usize; 5] = [1, 4, 8, 32, SLOTS];
 
 /// Listings of each kind and length.
 const LISTINGS: u32 = 4;
