@@ -9,7 +9,7 @@ use crate::steps::{Flags, Slice, State};
 /// How many numbers a function tells.
 pub const TOLD: usize = 8;
 
-type Told = [u64; TOLD];
+pub type Told = [u64; TOLD];
 
 unsafe extern "C" {
     fn recipe_archive_recipe_answer(text: &Slice<u8>, out: &Slice<u8>) -> usize;
@@ -21,6 +21,16 @@ unsafe extern "C" {
         flags: &mut u8,
         start: usize,
         budget: u32,
+        told: &mut Told,
+    );
+    fn recipe_archive_rack_run(
+        listing: &Slice<u64>,
+        d: &Slice<u32>,
+        a: &Slice<u32>,
+        flags: &Slice<u8>,
+        starts: &Slice<usize>,
+        budget: u32,
+        answers: &Slice<u64>,
         told: &mut Told,
     );
 }
@@ -41,10 +51,41 @@ pub fn recipe_translate(text: &[u8], listing: &mut [u64]) -> Told {
 
 /// What `Ran::told` tells of other runs; then zeros.
 pub fn listing_run(listing: &[u64], state: &mut State, start: usize, budget: u32) -> Told {
-    let (mut told, mut flags) = ([u64::MAX; TOLD], state.flags.ccr());
-    let State { d, a, .. } = state;
-    // SAFETY: as above.
-    unsafe { recipe_archive_listing_run(&Slice::lent(listing), d, a, &mut flags, start, budget, &mut told) };
+    let mut flags = state.flags.ccr();
+    let told = box_run(listing, &mut state.d, &mut state.a, &mut flags, start, budget);
     state.flags = Flags::of(flags);
+    told
+}
+
+/// The same on registers and flags as they stand in a rack's rows.
+pub fn box_run(
+    listing: &[u64],
+    d: &mut [u32; 8],
+    a: &mut [u32; 8],
+    flags: &mut u8,
+    start: usize,
+    budget: u32,
+) -> Told {
+    let mut told = [u64::MAX; TOLD];
+    // SAFETY: as above.
+    unsafe { recipe_archive_listing_run(&Slice::lent(listing), d, a, flags, start, budget, &mut told) };
+    told
+}
+
+/// The refusal's number and the boxes that were run; then zeros. Of each box `d`, `a` and `answers` have eight words.
+pub fn rack_run(
+    listing: &[u64],
+    [d, a]: [&mut [u32]; 2],
+    flags: &mut [u8],
+    starts: &[usize],
+    budget: u32,
+    answers: &mut [u64],
+) -> Told {
+    let mut told = [u64::MAX; TOLD];
+    let [d, a] = [d, a].map(Slice::lent_to_write);
+    let (listing, starts) = (Slice::lent(listing), Slice::lent(starts));
+    let (flags, answers) = (Slice::lent_to_write(flags), Slice::lent_to_write(answers));
+    // SAFETY: as above.
+    unsafe { recipe_archive_rack_run(&listing, &d, &a, &flags, &starts, budget, &answers, &mut told) };
     told
 }

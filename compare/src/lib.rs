@@ -27,6 +27,15 @@ pub mod port;
 pub mod ported;
 #[cfg(feature = "recipes")]
 pub mod ported_recipes;
+#[cfg(feature = "step")]
+pub mod rack_checks;
+pub mod rack_examples;
+#[cfg(feature = "step")]
+pub mod rack_speed;
+#[cfg(feature = "step")]
+pub mod racks;
+#[cfg(feature = "step")]
+pub mod random_racks;
 pub mod recipes;
 pub mod refusals;
 pub mod shim;

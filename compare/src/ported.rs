@@ -35,6 +35,23 @@ struct Told {
     clocks: u32,
 }
 
+/// step::racks::Fit
+#[repr(u8)]
+#[derive(Clone, Copy)]
+#[allow(dead_code)] // made by the port
+enum Fit {
+    Fits,
+    TooMany,
+}
+
+/// step::racks::Racked
+#[repr(C)]
+#[derive(Clone, Copy)]
+struct Racked {
+    fit: Fit,
+    boxes: usize,
+}
+
 unsafe extern "C" {
     fn step_runs_run_array(
         answer: *mut Answer,
@@ -50,6 +67,14 @@ unsafe extern "C" {
         state: *const State,
         start: usize,
         budget: u32,
+    );
+    fn step_racks_rack(
+        answer: *mut Racked,
+        listing: *const Slice<Step>,
+        sets: *const Slice<State>,
+        starts: *const Slice<usize>,
+        budget: u32,
+        answers: *const Slice<Ran>,
     );
     fn step_lent_perform_in(answer: *mut Told, state: *mut State, step: *const Step);
     fn step_lent_fetch(answer: *mut Step, listing: *const Slice<Step>, at: usize, other: *const Step);
@@ -76,6 +101,29 @@ pub fn run(listing: &[Step], state: &mut State, start: usize, budget: u32) -> Ra
     let slice = Slice::lent(listing);
     // SAFETY: as above.
     answered(state, |answer, state| unsafe { step_lent_run(answer, &slice, state, start, budget) })
+}
+
+/// The refusal's number, and how many boxes were run.
+pub fn rack(
+    listing: &[Step],
+    sets: &mut [State],
+    starts: &[usize],
+    budget: u32,
+    answers: &mut [Ran],
+) -> (u64, usize) {
+    let (listing, starts) = (Slice::lent(listing), Slice::lent(starts));
+    let (sets, answers) = (Slice::lent_to_write(sets), Slice::lent_to_write(answers));
+    let mut racked = MaybeUninit::uninit();
+    // SAFETY: as above; the rows that are written overlap nothing.
+    let racked: Racked = unsafe {
+        step_racks_rack(racked.as_mut_ptr(), &listing, &sets, &starts, budget, &answers);
+        racked.assume_init()
+    };
+    let number = match racked.fit {
+        Fit::Fits => 0,
+        Fit::TooMany => 15,
+    };
+    (number, racked.boxes)
 }
 
 /// The listing once more, written by `store` slot by slot.

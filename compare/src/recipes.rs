@@ -16,6 +16,9 @@ pub const STEPS_MAX: usize = 256;
 /// The slots of a listing in an array, and of one in words: steps past them are not run.
 pub const SLOTS: usize = 256;
 
+/// As many boxes as a rack may have.
+pub const BOXES_MAX: usize = 64;
+
 /// As many bytes of its input as the program reads.
 pub const TEXT_MAX: usize = 1024;
 

@@ -12,7 +12,7 @@ pub enum Size {
     Word,
     Long,
 }
-#[derive(Clone, Copy)]
+#[derive(Clone, Copy, PartialEq, Debug)]
 #[repr(C)]
 pub struct Flags {
     pub x: bool,
@@ -115,6 +115,15 @@ pub struct Step {
     pub form: Form,
 }
 
+const TWOS: [Two; 5] = [Two::Add, Two::Sub, Two::Cmp, Two::Addx, Two::Subx];
+const ADRS: [Adr; 3] = [Adr::Adda, Adr::Suba, Adr::Cmpa];
+const QUICKS: [Quick; 2] = [Quick::Addq, Quick::Subq];
+const ONES: [One; 5] = [One::Clr, One::Neg, One::Negx, One::Not, One::Ext];
+#[rustfmt::skip]
+const SHIFTS: [Shift; 8] =
+    [Shift::Asl, Shift::Asr, Shift::Lsl, Shift::Lsr, Shift::Rol, Shift::Ror, Shift::Roxl, Shift::Roxr];
+const BITS: [Bit; 4] = [Bit::Btst, Bit::Bset, Bit::Bclr, Bit::Bchg];
+
 impl Step {
     /// The step's word: the operation, the size, the source's kind and number and the destination, from the lowest byte up.
     pub fn word(&self) -> u64 {
@@ -133,16 +142,35 @@ impl Step {
         };
         u64::from_le_bytes([operation, self.size as u8, kind, from, to, 0, 0, 0])
     }
+
+    /// The step that has these numbers in its word, if there is one.
+    pub fn named([operation, size, kind, from, to]: [u8; 5]) -> Option<Step> {
+        let at = usize::from(operation);
+        let count = if kind == 1 { Count::Small(from) } else { Count::Data(from) };
+        let source = if kind == 2 { Register::Data(from) } else { Register::Address(from) };
+        let form = match (operation, kind) {
+            (0..5, 2) => Form::Two(TWOS[at], from, to),
+            (5..8, 2 | 3) => Form::Address(ADRS[at - 5], source, to),
+            (8..10, 1) => Form::Quick(QUICKS[at - 8], from, Register::Data(to)),
+            (10..12, 1) => Form::Quick(QUICKS[at - 10], from, Register::Address(to)),
+            (12..17, 0) => Form::One(ONES[at - 12], to),
+            (17..25, 1 | 2) => Form::Shift(SHIFTS[at - 17], count, to),
+            (25..29, 1 | 2) => Form::Bit(BITS[at - 25], count, to),
+            (29, 2) => Form::Chk(from, to),
+            _ => return None,
+        };
+        Some(Step { size: *SIZES.get(usize::from(size))?, form })
+    }
 }
 
-#[derive(Clone, Copy)]
+#[derive(Clone, Copy, PartialEq, Debug)]
 #[repr(C)]
 pub struct State {
     pub d: [u32; 8],
     pub a: [u32; 8],
     pub flags: Flags,
 }
-#[derive(Clone, Copy)]
+#[derive(Clone, Copy, PartialEq, Debug)]
 #[repr(u8)]
 pub enum Fault {
     Small,
@@ -150,7 +178,7 @@ pub enum Fault {
     NoRegister,
     StartPastEnd,
 }
-#[derive(Clone, Copy)]
+#[derive(Clone, Copy, PartialEq, Debug)]
 #[repr(u8)]
 pub enum Class {
     Over,
@@ -161,7 +189,7 @@ pub enum Stop {
     Trapped(Class, u32),
     Refused(Fault),
 }
-#[derive(Clone, Copy)]
+#[derive(Clone, Copy, PartialEq, Debug)]
 #[repr(u8)]
 pub enum End {
     Finished,
@@ -169,6 +197,9 @@ pub enum End {
     Trapped(Class, usize),
     Refused(Fault, usize),
 }
+/// What a run says beside the state that it leaves. The port has it so in a rack's slots.
+#[derive(Clone, Copy, PartialEq, Debug)]
+#[repr(C)]
 pub struct Ran {
     pub end: End,
     pub next: usize,
@@ -235,25 +266,12 @@ fn form_of(kind: u32, k: u32, small: u8, s: u8, r: u8) -> Form {
         |register| if k.is_multiple_of(2) { Register::Data(register) } else { Register::Address(register) };
     let count = if k.is_multiple_of(2) { Count::Small(small) } else { Count::Data(s) };
     match kind {
-        0..5 => Form::Two([Two::Add, Two::Sub, Two::Cmp, Two::Addx, Two::Subx][(k % 5) as usize], s, r),
-        5..7 => Form::Address([Adr::Adda, Adr::Suba, Adr::Cmpa][(k % 3) as usize], place(s), r),
-        7..9 => Form::Quick([Quick::Addq, Quick::Subq][(k / 2 % 2) as usize], small, place(r)),
-        9..11 => Form::One([One::Clr, One::Neg, One::Negx, One::Not, One::Ext][(k % 5) as usize], r),
-        11..14 => Form::Shift(
-            [
-                Shift::Asl,
-                Shift::Asr,
-                Shift::Lsl,
-                Shift::Lsr,
-                Shift::Rol,
-                Shift::Ror,
-                Shift::Roxl,
-                Shift::Roxr,
-            ][(k / 2 % 8) as usize],
-            count,
-            r,
-        ),
-        14 => Form::Bit([Bit::Btst, Bit::Bset, Bit::Bclr, Bit::Bchg][(k / 2 % 4) as usize], count, r),
+        0..5 => Form::Two(TWOS[(k % 5) as usize], s, r),
+        5..7 => Form::Address(ADRS[(k % 3) as usize], place(s), r),
+        7..9 => Form::Quick(QUICKS[(k / 2 % 2) as usize], small, place(r)),
+        9..11 => Form::One(ONES[(k % 5) as usize], r),
+        11..14 => Form::Shift(SHIFTS[(k / 2 % 8) as usize], count, r),
+        14 => Form::Bit(BITS[(k / 2 % 4) as usize], count, r),
         15 => Form::Chk(7, 7),
         _ => Form::Chk(s, r),
     }

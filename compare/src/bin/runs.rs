@@ -2,17 +2,20 @@
 //! `run` over a slice; single steps by `perform_in`) against a hand-tuned Rust loop and, where every step is done, against
 //! a loop through the crate's exec functions.
 //!
-//!   runs agree [LISTINGS]   that all answer the same, on random listings
+//!   runs agree [LISTINGS]   that all answer the same, on random listings; then as many racks, by `rack` and `rack_run`
 //!   runs speed [ROUNDS]     nanoseconds a step of a whole array of mixed steps, and of each kind alone
 //!   runs growth [TURNS]     nanoseconds a run and a step of mixed listings of 1 to 65,536 steps
+//!   runs rack [ROUNDS]      nanoseconds a box of a rack of 64, and of as many single runs
 
 use compare::c_functions::listing_run;
+use compare::cases::Random;
 use compare::machine::Machine;
 use compare::ported;
 use compare::recipes::SLOTS;
 use compare::steps::{FIRST, MIXED, Ran, State, Step, WILD, answered, listing_of, registers, steps_of};
 use compare::timing::{Way, best};
 use compare::tuned;
+use compare::{rack_checks, rack_speed};
 use std::hint::black_box;
 use std::process::ExitCode;
 
@@ -93,7 +96,7 @@ fn agrees(laps: Laps) -> bool {
     good
 }
 
-fn agree(listings: u32) -> ExitCode {
+fn agree(listings: u32, mut random: Random) -> ExitCode {
     let (mut differ, mut steps) = (0u64, 0u64);
     for seed in 0..listings {
         let count = seed as usize % (SLOTS + 1);
@@ -109,7 +112,12 @@ fn agree(listings: u32) -> ExitCode {
         steps += u64::from(laps.rounds) * count as u64;
     }
     println!("total {listings} listings, at most {steps} steps each way, {differ} differ");
-    if differ == 0 { ExitCode::SUCCESS } else { ExitCode::FAILURE }
+    let (racks_differ, met) = rack_checks::compare(listings, &mut random);
+    match (differ + racks_differ, met) {
+        (0, true) => ExitCode::SUCCESS,
+        (0, false) => ExitCode::from(2),
+        _ => ExitCode::FAILURE,
+    }
 }
 
 const KINDS: [(&str, u32); 8] = [
@@ -265,11 +273,19 @@ fn main() -> ExitCode {
     let words: Vec<String> = std::env::args().skip(1).collect();
     let number = |default| words.get(1).map_or(Some(default), |word| word.parse().ok());
     match (words.first().map(String::as_str), words.len()) {
-        (Some("agree"), 1 | 2) => number(100_000).map_or(ExitCode::from(2), agree),
+        (Some("agree"), 1 | 2) => {
+            let asked = number(100_000).zip(Random::seeded());
+            asked.map_or(ExitCode::from(2), |(listings, random)| agree(listings, random))
+        }
         (Some("speed"), 1 | 2) => number(100_000).map_or(ExitCode::from(2), speed),
         (Some("growth"), 1 | 2) => number(51).filter(|&n| n > 0).map_or(ExitCode::from(2), growth),
+        (Some("rack"), 1 | 2) => {
+            number(301).filter(|&n| n > 0).map_or(ExitCode::from(2), rack_speed::measure)
+        }
         _ => {
-            eprintln!("runs: usage: runs agree [LISTINGS] | runs speed [ROUNDS] | runs growth [TURNS]");
+            eprintln!(
+                "runs: usage: runs agree [LISTINGS] | runs speed [ROUNDS] | runs growth [TURNS] | runs rack [ROUNDS]; SEED is a number"
+            );
             ExitCode::from(2)
         }
     }
