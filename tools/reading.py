@@ -260,11 +260,18 @@ BOX_WORD = re.compile(rb"([DA])([0-7])=([0-9A-Fa-f]{1,8})|([XNZVC])=([01])|from=
 BOX_FORMS = b" is not understood: D0=HEX..D7=HEX, A0=HEX..A7=HEX, X= N= Z= V= C= 0 or 1, from=PLACE"
 AGAIN = b" is a second word for the same thing: each is given once\n"
 BOX_HEADING = "box  end         place  steps  clocks  X N Z V C"
-GO_ON = "halted: go on with boxes=FILE alone, where FILE has these lines"
+GO_ON = "halted: go on with boxes=FILE, and steps=COUNT if you like, where FILE has these lines"
+SHOWN = 60  # bytes of a bad line or word that are shown
 
 
 class NotTaken(Exception):
     """What bench says of a file of boxes that it does not take, on standard error."""
+
+
+def seen(word):
+    """A word as bench shows it: a tab as >, and what can't be shown, or would be taken for a tab, as ?."""
+    shown = (ord(">") if b == 9 else b if 32 <= b <= 126 and b != ord(">") else ord("?") for b in word[:SHOWN])
+    return bytes(shown) + b".." * (len(word) > SHOWN)
 
 
 def box_of(asked, line, where):
@@ -273,9 +280,9 @@ def box_of(asked, line, where):
     for word in re.findall(rb"[^ \t]+", line):
         found, thing = BOX_WORD.fullmatch(word), word.split(b"=")[0]
         if not found:
-            raise NotTaken(where + word + BOX_FORMS + b"\n")
+            raise NotTaken(where + seen(word) + BOX_FORMS + b"\n")
         if thing in things:
-            raise NotTaken(where + word + AGAIN)
+            raise NotTaken(where + seen(word) + AGAIN)
         things.add(thing)
         kind, r, value, flag, digit, place = found.groups()
         if kind:

@@ -48,8 +48,9 @@ pub fn rack(
 }
 
 /// The same over rows of numbers, as the library takes them: as many boxes as there are flags, and of each eight words of `d`,
-/// of `a` and of `answers`, which get the numbers of C's `listing_run`. What lies behind the boxes' words stays. Answers how
-/// many boxes were run. A row that is too short is refused too, and then nothing is written.
+/// of `a` and of `answers`: 0 Finished, 1 Budget, 2 Trapped or 3 Refused; a trap's class or a refusal's number; its place; the
+/// next place; the steps; the clocks; 0; 0. What lies behind the boxes' words stays. Answers how many boxes were run. A row that
+/// is too short is refused too, and then nothing is written. Words are taken as [`run_words`](crate::run_words) takes them.
 ///
 /// ```
 /// use gromavelush::{Refusal, rack_run};

@@ -276,7 +276,7 @@ fn put_halted(
 ) -> usize {
     let above = put(
         at_start(),
-        b"\nhalted: go on with boxes=FILE alone, where FILE has these lines",
+        b"\nhalted: go on with boxes=FILE, and steps=COUNT if you like, where FILE has these lines",
     );
     let next = put_line(out, at, above);
     put_each(out, next, file, count, asked, width, made, true)

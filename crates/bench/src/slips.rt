@@ -48,6 +48,12 @@ fn put_dots(pen: Pen, left_off: bool) -> Pen {
     if left_off { put(pen, b"..") } else { pen }
 }
 
+// The first bytes of a row, and dots where it has more.
+pub(crate) fn put_start(pen: Pen, row: &[u8]) -> Pen {
+    let next = put_seen(pen, row, 0, SHOWN);
+    put_dots(next, SHOWN < row.len())
+}
+
 fn head(line: usize) -> Pen {
     let next = put(at_start(), b"line ");
     let next = put_decimal(next, line as u64);

@@ -1,5 +1,8 @@
 // The words that the program is started with, and those of a box's line (boxes.rt).
 ghost use Prim.Native.Nat.{_<_, _≤_};
+use crate::pen::at_start;
+use crate::pen::within;
+use crate::slips::put_start;
 use alu::types::Flags;
 use check::same;
 use libc::STDERR_FILENO;
@@ -372,9 +375,17 @@ pub(crate) fn tell(text: &[u8]) {
     io::write_all(STDERR_FILENO, text);
 }
 
+// A word made visible, as a refused line is.
+fn tell_seen(text: &[u8]) {
+    let pen = put_start(at_start(), text);
+    let line = pen.line;
+    let n = within(pen.at, &line);
+    tell(&line[..n]);
+}
+
 // Says why a word was not taken. Where it stands is said before.
 pub(crate) fn report(text: &[u8], last: Taking, things: usize) {
-    tell(text);
+    tell_seen(text);
     if let Taking::Again = last {
         tell(b" is a second word for the same thing: each is given once\n");
         return;

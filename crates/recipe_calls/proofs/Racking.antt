@@ -21,12 +21,11 @@ use Rattle.step.specs.Run.{ends, runOf, endNumbers}
 use Rattle.step.specs.Lent.{over}
 use Rattle.step.specs.declared.racks.Racked.{Racked}
 use Rattle.step.specs.Rack.{fitNumber, runsOf}
-use Rattle.step.proofs.Rows.{over-length, over-past}
+use Rattle.step.proofs.Rows.{over-length, over-put, over-past}
 use Rattle.step.proofs.Boxes.{first-many, first-at}
 use Rattle.recipe_calls.specs.Words.{firstOf}
-use Rattle.recipe_calls.specs.Calls.{stateOf, ranTold, eightAt, setsOf, joined, RackLeft, rackLeft}
-use Rattle.recipe_calls.specs.Boxes.{boxState, BoxPut}
-use Rattle.recipe_calls.proofs.Turns.{put}
+use Rattle.recipe_calls.specs.Calls.{stateOf, ranTold, setsOf, joined, rackLeft, rackBy}
+use Rattle.recipe_calls.specs.Boxes.{eightAt, boxState, BoxPut}
 
 -- ---- the register sets
 
@@ -165,18 +164,12 @@ module _ (l : List Step) (n : ℕ) (d₀ a₀ flags₀ starts : List ℕ) (b : �
                 (filled-next _ runs d₀ d i (t .of-d) none (r .state .d) inside (ap (λ (x : Ran). x .state .d) is) (p .many-d));
             of-a = subst⁻¹ (λ (row : List ℕ). Filled (λ r. r .state .a) runs a₀ row (i + 1)) (p .is-a)
                 (filled-next _ runs a₀ a i (t .of-a) none (r .state .a) inside (ap (λ (x : Ran). x .state .a) is) (p .many-a));
-            of-flags = p .is-flags ∙ (ap₂ (λ (row : List ℕ) (x : Ran). set row i (ccrLeft x)) (t .of-flags) is ∙ put ccrLeft flags₀ runs i none inside (omega (arith, g, sets)));
+            of-flags = p .is-flags ∙ (ap₂ (λ (row : List ℕ) (x : Ran). set row i (ccrLeft x)) (t .of-flags) is ∙ over-put ccrLeft flags₀ runs i none inside (omega (arith, g, sets)));
             of-answers = subst⁻¹ (λ (row : List ℕ). Filled ranTold runs answers₀ row (i + 1)) told
                 (filled-next ranTold runs answers₀ answers i (t .of-answers) none (ranTold r) inside (ap ranTold is) (told-many (r .end) _));
           }
 
 -- ---- the whole rack, by its plan
-
-abbrev pub rackBy : (listing d a flags starts : List ℕ) → (budget : ℕ) → (answers : List ℕ) → Racked → RackLeft
-rackBy listing d a flags starts budget answers plan =
-    let rs = runs (firstOf listing) (plan .boxes) d a flags starts budget answers in
-    rackLeft (over (joined (λ r. r .state .d) rs) d) (over (joined (λ r. r .state .a) rs) a) (over (map ccrLeft rs) flags) (over (joined ranTold rs) answers)
-    (fitNumber (plan .fit) ∷ plan .boxes ∷ 0 ∷ 0 ∷ 0 ∷ 0 ∷ 0 ∷ 0 ∷ [])
 
 pub after-all : (listing d₀ a₀ flags₀ starts : List ℕ) (budget : ℕ) (answers₀ d a flags answers : List ℕ) (i k : ℕ) (plan : Racked) →
     plan .boxes ≤ length flags₀ → plan .boxes ≤ length starts → i ≡ plan .boxes → k ≡ fitNumber (plan .fit) →

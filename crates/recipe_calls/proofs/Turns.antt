@@ -1,22 +1,19 @@
 -- Laws of the loops that turn a row into another, element by element. Assumes nothing.
 --     turned   a turn of a loop that fills an array
---     put      a turn of a loop that writes to the front of a lent row
---     copied   a turn of a loop that copies a part of a row into an array
+--     copied   a turn of a loop that copies a part of a row into an array, and pasted of one that copies an array into a row
 --     filled   where the first ends
---     taken    where the second ends
+--     taken    where a loop over the first of a row ends
 use Prim.Native.Nat.{ℕ, suc, _+_, _≤_, _<_, min}
 use mathlib.Core.Path.{_≡_, refl, ap, sym, _∙_}
 use mathlib.Core.List.{List, [], _∷_, _++_, map}
 use native.Mathlib.Decide.{decLe}
 use native.Mathlib.Omega.{arith}
-use lib.ListN.{length, take, drop, getD, set, length-map, length-drop, List·getD-map}
-use lib.Seq.{take-all, take-suc, take-suc-set, getD-drop}
+use lib.ListN.{length, take, drop, getD, set, length-drop}
+use lib.Seq.{take-all, take-suc, take-suc-set, getD-drop, paste, paste-suc}
 use Rattle.alu.specs.declared.types.Size.the-variants.{Byte}
 use Rattle.step.specs.declared.forms.TwoOp.the-variants.{Add}
 use Rattle.step.specs.declared.forms.Form.the-variants.{Two}
 use Rattle.step.specs.declared.forms.Step.{Step}
-use Rattle.step.specs.Lent.{over}
-use Rattle.step.proofs.Rows.{over-next, take-map}
 
 map-snoc : {A B : Type 0} (f : A → B) (l : List A) (a : A) → map f (l ++ (a ∷ [])) ≡ map f l ++ (f a ∷ [])
 map-snoc f [] a = refl
@@ -29,13 +26,6 @@ turned f rs l i d e h k =
     let next : i + 1 ≡ suc i = omega arith in
     rw next (take-suc-set rs i (f (getD l i d)) h ∙ rw (e, take-suc l i d k, map-snoc f (take i l) (getD l i d)))
 
-pub put :
-    {A B : Type 0} (f : A → B) (old : List B) (l : List A) (i : ℕ) (d : A) →
-    i < length l → i < length old → set (over (map f (take i l)) old) i (f (getD l i d)) ≡ over (map f (take (i + 1) l)) old
-put f old l i d h k =
-    let next : i + 1 ≡ suc i = omega arith in
-    rw (next, ← take-map f i l, ← take-map f (suc i) l, ← List·getD-map f l i d) (over-next (map f l) old i (f d) (omega (arith, length-map l f)) k)
-
 pub copied :
     {A : Type 0} (rs row : List A) (at j : ℕ) (d : A) →
     take j rs ≡ take j (drop at row) → j < length rs → at + j < length row → take (j + 1) (set rs j (getD row (at + j) d)) ≡ take (j + 1) (drop at row)
@@ -44,6 +34,12 @@ copied rs row at j d e h k =
     rw next
     (take-suc-set rs j (getD row (at + j) d) h
     ∙ rw (e, ← getD-drop at row j d, ← take-suc (drop at row) j d (omega (arith, length-drop at row))))
+
+pub pasted : (old row words : List ℕ) (at j : ℕ) → row ≡ paste old at words j → j < length words → at + j < length old
+    → set row (at + j) (getD words j 0) ≡ paste old at words (j + 1)
+pasted old row words at j e h k =
+    let next : suc j ≡ j + 1 = omega arith in
+    ap (λ (xs : List ℕ). set xs (at + j) (getD words j 0)) e ∙ (paste-suc old at words j 0 k h ∙ ap (paste old at words) next)
 
 -- what a loop's place past the end of its array would hold
 abbrev pub nop : Step

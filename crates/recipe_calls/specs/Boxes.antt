@@ -6,7 +6,11 @@ use lib.ListN.{length, take, drop, getD, set}
 use Rattle.alu.specs.ConditionCodes.{ccrOf}
 use Rattle.step.specs.declared.registers.State.{State}
 use Rattle.step.specs.declared.runs.Ran.{Ran}
-use Rattle.recipe_calls.specs.Calls.{stateOf, eightAt}
+use Rattle.recipe_calls.specs.Calls.{stateOf}
+
+-- the words of box i
+abbrev pub eightAt : (i : ℕ) → List ℕ → List ℕ
+eightAt i row = take 8 (drop (8 * i) row)
 
 -- the register set of box i
 abbrev pub boxState : (i : ℕ) → (d a flags : List ℕ) → State

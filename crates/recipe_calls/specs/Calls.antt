@@ -78,10 +78,6 @@ runWords listing d a flags start budget = ranLeft (runOf performOf (firstOf list
 
 -- ---- rack_run: of each box eight words of `d` and of `a`, its flags, and eight words of `answers`, as `listing_run` tells them; refusal number, number of boxes
 
--- the words of box i
-abbrev pub eightAt : (i : ℕ) → List ℕ → List ℕ
-eightAt i row = take 8 (drop (8 * i) row)
-
 -- the register sets, one for each of the flags
 abbrev pub setsOf : (d a flags : List ℕ) → List State
 setsOf d a [] = []
@@ -103,13 +99,17 @@ pub record RackLeft : Type 0 where
 abbrev pub rackLeft : (d a flags answers told : List ℕ) → RackLeft
 rackLeft d a flags answers told = record { d = d; a = a; flags = flags; answers = answers; told = told }
 
--- as a rack of the crate step; one is also refused whose row of registers is too short
-abbrev pub rackWords : (listing d a flags starts : List ℕ) → (budget : ℕ) → (answers : List ℕ) → RackLeft
-rackWords listing d a flags starts budget answers =
-    let plan = planOf (length flags) (length starts) (min (min (length d) (length a)) (length answers) / 8) in
+-- as a rack of the crate step, by its plan
+abbrev pub rackBy : (listing d a flags starts : List ℕ) → (budget : ℕ) → (answers : List ℕ) → Racked → RackLeft
+rackBy listing d a flags starts budget answers plan =
     let runs = runsOf performOf (firstOf listing) (take (plan .boxes) (setsOf d a flags)) starts budget in
     rackLeft (over (joined (λ r. r .state .d) runs) d) (over (joined (λ r. r .state .a) runs) a) (over (map (λ r. ccrOf (r .state .flags)) runs) flags)
     (over (joined ranTold runs) answers) (fitNumber (plan .fit) ∷ plan .boxes ∷ 0 ∷ 0 ∷ 0 ∷ 0 ∷ 0 ∷ 0 ∷ [])
+
+-- each row has as many slots as it has eights of words: one whose row of registers is too short is refused too
+abbrev pub rackWords : (listing d a flags starts : List ℕ) → (budget : ℕ) → (answers : List ℕ) → RackLeft
+rackWords listing d a flags starts budget answers =
+    rackBy listing d a flags starts budget answers (planOf (length flags) (length starts) (min (min (length d) (length a)) (length answers) / 8))
 
 -- ---- recipe_run: the registers and flags; refusal number, text line, a mask of the flags that are promised, steps, clocks, column
 

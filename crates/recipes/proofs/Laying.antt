@@ -1,11 +1,10 @@
 -- Laws of the loop that lays out a listing: where it stands, and the ways that a turn goes. Assumes nothing.
 use Prim.Native.Nat.{ℕ, zero, suc, _+_, _*_, _/_, _≤_, _<_}
-use mathlib.Core.List.{List, [], _∷_, append-assoc}
+use mathlib.Core.List.{List, [], _∷_}
 use mathlib.Core.Path.{_≡_, refl}
 use native.Mathlib.Decide.{decLt}
 use native.Mathlib.Omega.{arith}
-use lib.ListN.{length, take, drop, getD, set, length-replicate}
-use lib.Seq.{drop-cons, take-suc, set-at, length-take-le}
+use lib.ListN.{length, take, getD, set, length-replicate}
 use Rattle.step.specs.declared.forms.Step.{Step}
 use Rattle.step.specs.Run.{arraySlots}
 use Rattle.step.specs.Lent.{over}

@@ -94,8 +94,8 @@ abbrev pub FromText : Type 0
 FromText = (text : List ℕ) (slots : List Step) → isNothing (readOf text .refused) ≡ true → stepsMax ≤ length slots → isNothing (translateOf (readOf text .recipe) slots .refused) ≡ true
 
 -- Document 02, item 2, "Demand 3 reads each box by itself": the recipe's listing on a rack that is not refused, with a budget b, and then with each of the
--- budgets bs. A box that starts at the first place ends as demand 3 says of a run, whatever the other boxes hold and wherever they start. (d stands past
--- the rows' ends.)
+-- budgets bs. A box that starts at the first place ends as demand 3 says of a run, whatever the other boxes hold and wherever they start; no part of
+-- it is trapped or refused, and each is the run of that part (`rack-parts` of step/proofs/Boxes). (d stands past the rows' ends.)
 abbrev pub EachBox : Type 0
 EachBox =
     (w : ℕ) → 0 < w → (ls : List Line) → Accepted w ls → (sets : List State) (starts : List ℕ) (answers : List Boxed)

@@ -27,8 +27,8 @@ use Rattle.step.specs.declared.racks.Fit.the-variants.{Fits, TooMany}
 use Rattle.step.specs.Run.{after, runOf}
 use Rattle.step.specs.Lent.{over}
 use Rattle.step.specs.Parts.{runInParts}
-use Rattle.step.specs.Rack.{boxesMax, fitNumber, planOf, refusedRack, stateOf, boxedOf, Rack, left, runsOf, rackOf, ranBy, boxAt, nextOf, boxInParts}
-use Rattle.step.proofs.Rows.{over-length, over-next, over-before, over-past}
+use Rattle.step.specs.Rack.{boxesMax, fitNumber, planOf, refusedRack, stateOf, boxedOf, Rack, left, runsOf, planned, rackOf, ranBy, boxAt, nextOf, boxInParts}
+use Rattle.step.proofs.Rows.{over-length, over-put, over-before, over-past}
 
 -- ---- when a rack is run
 
@@ -123,39 +123,33 @@ module _ (f : State → Step → Performed) (l : List Step) (b : ℕ) where
 
 -- the row after i turns
 abbrev pub rowAt : {B : Type 0} → (g : Ran → B) → List Ran → (old : List B) → (i : ℕ) → List B
-rowAt g rs old i = over (take i (map g rs)) old
+rowAt g rs old i = over (map g (take i rs)) old
 
 module _ {B : Type 0} (g : Ran → B) (rs : List Ran) (old : List B) (fits : length rs ≤ length old) where
-  front : (i : ℕ) → i ≤ length rs → length (take i (map g rs)) ≡ i
-  front i h = length-take-le i (map g rs) (omega (arith, length-map rs g))
+  front : (i : ℕ) → i ≤ length rs → length (map g (take i rs)) ≡ i
+  front i h = length-map (take i rs) g ∙ length-take-le i rs h
 
   pub row-length : (i : ℕ) → i ≤ length rs → length (rowAt g rs old i) ≡ length old
-  row-length i h = over-length (take i (map g rs)) old (omega (arith, front i h))
+  row-length i h = over-length (map g (take i rs)) old (omega (arith, front i h))
 
   -- the next slot still is as it was
   pub row-still : (i : ℕ) (d : B) → i < length rs → getD (rowAt g rs old i) i d ≡ getD old i d
-  row-still i d h = over-past (take i (map g rs)) old i d (omega (arith, front i (omega arith)))
+  row-still i d h = over-past (map g (take i rs)) old i d (omega (arith, front i (omega arith)))
 
   pub row-next : (i : ℕ) (r d : Ran) → r ≡ getD rs i d → i < length rs → set (rowAt g rs old i) i (g r) ≡ rowAt g rs old (i + 1)
   row-next i r d e h =
-      let one : i + 1 ≡ suc i = omega arith in
-      ap (set (rowAt g rs old i) i) (ap g e ∙ sym (List·getD-map g rs i d))
-      ∙ (over-next (map g rs) old i (g d) (omega (arith, length-map rs g)) (omega arith) ∙ ap (rowAt g rs old) (sym one))
+      ap (λ (x : Ran). set (rowAt g rs old i) i (g x)) e ∙ over-put g old rs i d h (omega arith)
 
   pub row-last : (i : ℕ) → i ≡ length rs → rowAt g rs old i ≡ over (map g rs) old
-  row-last i e = ap (λ (new : List B). over new old) (take-all i (map g rs) (omega (arith, e, length-map rs g)))
+  row-last i e = ap (λ (xs : List Ran). over (map g xs) old) (take-all i rs (omega (arith, e)))
 
 -- ---- what a rack leaves
 
 module _ (f : State → Step → Performed) (l : List Step) (sets : List State) (starts : List ℕ) (b : ℕ) (answers : List Boxed) where
-  -- a rack by its plan
-  abbrev pub planned : Racked → Rack
-  planned p = let runs = runsOf f l (take (p .boxes) sets) starts b in left p (over (map stateOf runs) sets) (over (map boxedOf runs) answers)
-
   -- nothing changes
   pub rack-refused : planOf (length sets) (length starts) (length answers) ≡ refusedRack → rackOf f l sets starts b answers ≡ left refusedRack sets answers
   unfolding runsOf
-  rack-refused e = ap planned e
+  rack-refused e = ap (planned f l sets starts b answers) e
 
   module _ (h : Fitting (length sets) (length starts) (length answers)) where
     abbrev runs : List Ran
@@ -166,7 +160,7 @@ module _ (f : State → Step → Performed) (l : List Step) (sets : List State) 
 
     pub rack-run : rackOf f l sets starts b answers ≡ left (record { fit = Fits; boxes = length sets }) (over (map stateOf runs) sets) (over (map boxedOf runs) answers)
     rack-run =
-        ap planned (plan-fits (length sets) (length starts) (length answers) h)
+        ap (planned f l sets starts b answers) (plan-fits (length sets) (length starts) (length answers) h)
         ∙ ap (λ (ss : List State). let rs = runsOf f l ss starts b in left (record { fit = Fits; boxes = length sets }) (over (map stateOf rs) sets) (over (map boxedOf rs) answers))
         (take-all (length sets) sets (omega arith))
 

@@ -3,13 +3,13 @@
 --     over-next     one slot more is written
 --     over-before   what stands in a slot that is written
 --     over-past     what stands in any other: what it was
---     take-map      the first of a row that is made slot by slot
+--     over-put      the same of a row that is made of another, slot by slot
 -- Assumes nothing.
 use mathlib.Core.Path.{_≡_, refl, ap, _∙_}
 use mathlib.Core.List.{List, [], _∷_, map, append-assoc}
 use Prim.Native.Nat.{ℕ, zero, suc, _+_, _-_, _<_, _≤_}
 use native.Mathlib.Omega.{arith}
-use lib.ListN.{length, take, drop, getD, set, length-append, length-drop, List·getD-append}
+use lib.ListN.{length, take, drop, getD, set, length-append, length-drop, length-map, List·getD-append, List·getD-map}
 use lib.Seq.{drop-cons, take-suc, set-at, length-take-le, getD-drop, getD-append-add}
 use Rattle.step.specs.Lent.{over}
 
@@ -39,7 +39,13 @@ module _ {A : Type 0} (new old : List A) where
       ∙ (getD-append-add new (drop (length new) old) (i - length new) d
       ∙ (getD-drop (length new) old (i - length new) d ∙ ap (λ (j : ℕ). getD old j d) back))
 
-pub take-map : {A B : Type 0} (f : A → B) (n : ℕ) (l : List A) → take n (map f l) ≡ map f (take n l)
+take-map : {A B : Type 0} (f : A → B) (n : ℕ) (l : List A) → take n (map f l) ≡ map f (take n l)
 take-map f zero l = refl
 take-map f (suc n) [] = refl
 take-map f (suc n) (x ∷ l) = ap (λ r. f x ∷ r) (take-map f n l)
+
+pub over-put : {A B : Type 0} (f : A → B) (old : List B) (l : List A) (i : ℕ) (d : A) → i < length l → i < length old
+    → set (over (map f (take i l)) old) i (f (getD l i d)) ≡ over (map f (take (i + 1) l)) old
+over-put f old l i d h k =
+    let next : i + 1 ≡ suc i = omega arith in
+    rw (next, ← take-map f i l, ← take-map f (suc i) l, ← List·getD-map f l i d) (over-next (map f l) old i (f d) (omega (arith, length-map l f)) k)

@@ -56,12 +56,13 @@ module _ (f : State → Step → Performed) (l : List Step) where
   runsOf (s ∷ sets) [] b = []
   runsOf (s ∷ sets) (p ∷ starts) b = runOf f l s p b ∷ runsOf sets starts b
 
-  -- the boxes that are run get what their runs leave; of both rows all else stays
+  -- the boxes that the plan has get what their runs leave; of both rows all else stays
+  abbrev pub planned : List State → (starts : List ℕ) → (b : ℕ) → List Boxed → Racked → Rack
+  planned sets starts b answers plan =
+      let runs = runsOf (take (plan .boxes) sets) starts b in left plan (over (map stateOf runs) sets) (over (map boxedOf runs) answers)
+
   abbrev pub rackOf : List State → (starts : List ℕ) → (b : ℕ) → List Boxed → Rack
-  rackOf sets starts b answers =
-      let plan = planOf (length sets) (length starts) (length answers) in
-      let runs = runsOf (take (plan .boxes) sets) starts b in
-      left plan (over (map stateOf runs) sets) (over (map boxedOf runs) answers)
+  rackOf sets starts b answers = planned sets starts b answers (planOf (length sets) (length starts) (length answers))
 
 -- ---- box by box
 

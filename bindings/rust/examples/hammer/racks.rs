@@ -3,15 +3,12 @@
 use crate::cases::Random;
 use crate::listings::{counted, some_budget, some_start, some_words, step_of, told_of_safe};
 use crate::raw::{self, Rack, Registers, Row, TOLD, told_of};
-use crate::recipes::SLOTS;
+use crate::recipes::{BOXES_MAX, SLOTS};
 use crate::steps::{State, Step};
 use crate::tally::Tally;
 use crate::tuned;
 use crate::written::{safe_state, some_state};
 use gromavelush as safe;
-
-/// As the header has it.
-const BOXES: usize = 64;
 
 const MARK: u64 = 0xA5A5_A5A5_A5A5_A5A5;
 
@@ -35,7 +32,7 @@ fn some_length(random: &mut Random, wanted: usize) -> usize {
 
 fn some_boxes(random: &mut Random) -> usize {
     match random.below(8) {
-        0 => random.pick(&[0, 1, BOXES - 1, BOXES, BOXES + 1, 100]),
+        0 => random.pick(&[0, 1, BOXES_MAX - 1, BOXES_MAX, BOXES_MAX + 1, 100]),
         _ => random.below(6),
     }
 }
@@ -66,7 +63,7 @@ fn wanted(
         || rows.d.len() < 8 * many
         || rows.a.len() < 8 * many
         || rows.answers.len() < 8 * many;
-    if many > BOXES || short {
+    if many > BOXES_MAX || short {
         return (told_of(&[15, 0]), left);
     }
     for (i, (state, &start)) in states.iter_mut().zip(starts).enumerate() {
@@ -96,14 +93,18 @@ fn try_safe(
     let mut states = untouched.clone();
     let got = safe::rack(&listing, &mut states, starts, budget);
     tally.called("rack, rack_run of the package");
-    let too_many = before.len() > BOXES || starts.len() < before.len();
+    let too_many = before.len() > BOXES_MAX || starts.len() < before.len();
     let same = |(i, (ran, state)): (usize, (&safe::Ran, &safe::State))| {
         let registers = state.d == left.d[8 * i..][..8] && state.a == left.a[8 * i..][..8];
         told_of_safe(ran) == left.answers[8 * i..][..8] && registers && state.flags.ccr() == left.flags[i]
     };
     let agrees = match &got {
         Err(refusal) => too_many && refusal.number() == 15 && states == untouched,
-        Ok(ran) => !too_many && (refused || ran.iter().zip(&states).enumerate().all(same)),
+        Ok(ran) => {
+            !too_many
+                && ran.len() == before.len()
+                && (refused || ran.iter().zip(&states).enumerate().all(same))
+        }
     };
     tally.agrees(agrees, || format!("rack of {} boxes of {words:x?}: {got:?}", before.len()));
 }

@@ -162,6 +162,7 @@ fn the_examples() {
         racks += 1 + many;
     }
     assert_eq!(racks, lines.len(), "a line is neither a rack nor a box");
+    assert!(racks > 30, "there are examples");
 }
 
 // ---- against single runs

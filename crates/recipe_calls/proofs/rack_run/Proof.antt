@@ -1,5 +1,5 @@
 -- `rack_run` meets its contract: a turn of the loop runs one box (`After` of Racking). Assumes nothing.
-use mathlib.Core.Path.{_≡_, refl, sym, subst⁻¹, ap, _∙_}
+use mathlib.Core.Path.{_≡_, refl, subst⁻¹, ap, _∙_}
 use Prim.Native.Nat.{ℕ, _+_, _*_, _/_, _-_, _<_, _≤_, min}
 use mathlib.Core.List.{List}
 use native.Mathlib.Omega.{arith}
@@ -12,8 +12,9 @@ use Rattle.step.specs.Run.{runOf}
 use Rattle.step.specs.Rack.{planOf}
 use Rattle.step.proofs.Boxes.{Within, plan-within}
 use Rattle.recipe_calls.specs.Words.{firstOf}
+use Rattle.recipe_calls.specs.Calls.{rackBy}
 use Rattle.recipe_calls.specs.Boxes.{boxState}
-use Rattle.recipe_calls.proofs.Racking.{After, after-none, after-next, after-length, after-all, rackBy, room-in}
+use Rattle.recipe_calls.proofs.Racking.{After, after-none, after-next, after-length, after-all, room-in}
 use borrow.Author.Needs.{needs}
 use Rattle.recipe_calls.proofs.rack_run.Statement.{statement}
 use Rattle.recipe_calls.proofs.rack_run.Tie as tie

@@ -1,6 +1,6 @@
 -- `run_box` meets its contract. Assumes nothing.
-use mathlib.Core.Path.{_≡_, ap, _∙_}
-use lib.ListN.{length, set}
+use mathlib.Core.Path.{ap, _∙_}
+use lib.ListN.{set}
 use borrow.Author.Needs.{needs}
 use Rattle.recipe_calls.proofs.run_box.Statement.{statement}
 use Rattle.recipe_calls.proofs.run_box.Tie as tie

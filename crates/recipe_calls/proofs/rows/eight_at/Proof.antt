@@ -1,9 +1,8 @@
 -- `rows::eight_at` meets its contract: a turn of the loop copies one word. Assumes nothing.
 use mathlib.Core.Path.{_≡_, refl, sym, ap, _∙_}
-use Prim.Native.Nat.{ℕ, suc, _+_, _*_, _-_, _<_, _≤_}
-use mathlib.Core.List.{List}
+use Prim.Native.Nat.{ℕ, _+_, _*_, _-_, _<_, _≤_}
 use native.Mathlib.Omega.{arith}
-use lib.ListN.{length, take, drop, getD, set, length-set}
+use lib.ListN.{length, take, drop, getD, length-set}
 use lib.Seq.{take-all}
 use Rattle.recipe_calls.proofs.Turns.{copied}
 use borrow.Author.Needs.{needs}

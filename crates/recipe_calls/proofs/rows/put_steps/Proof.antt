@@ -6,7 +6,8 @@ use lib.ListN.{length, take, set, length-set}
 use Rattle.recipes.proofs.Steps.{mapped}
 use Rattle.step.specs.Lent.{over}
 use Rattle.recipe_calls.specs.Words.{stepWord}
-use Rattle.recipe_calls.proofs.Turns.{put, taken, nop}
+use Rattle.recipe_calls.proofs.Turns.{taken, nop}
+use Rattle.step.proofs.Rows.{over-put}
 use borrow.Author.Needs.{needs}
 use Rattle.recipe_calls.proofs.rows.put_steps.Statement.{statement}
 use Rattle.recipe_calls.proofs.rows.put_steps.Tie as tie
@@ -33,7 +34,7 @@ loop-again c =
       length-set (l .listing) (l .i) (c .step-word .result) ∙ l .inv .2,
       ap (λ (xs : List ℕ). set xs (l .i) (c .step-word .result)) (l .inv .3)
           ∙ ap (set (over (map stepWord (take (l .i) (a .t1))) (a .listing .now)) (l .i)) (c .step-word .ensures)
-          ∙ put stepWord (a .listing .now) (a .t1) (l .i) nop h k,
+          ∙ over-put stepWord (a .listing .now) (a .t1) (l .i) nop h k,
     )
 
 returns : tie.Need-returns Inv-loop μ-loop

@@ -1,10 +1,9 @@
 -- `rows::put_told` meets its contract: a turn of the loop writes one word. Assumes nothing.
-use mathlib.Core.Path.{_≡_, refl, sym, ap, _∙_}
-use Prim.Native.Nat.{ℕ, suc, _+_, _*_, _-_, _<_, _≤_}
-use mathlib.Core.List.{List}
-use native.Mathlib.Omega.{arith}
-use lib.ListN.{length, getD, set, length-set}
-use lib.Seq.{paste, paste-zero, paste-suc}
+use mathlib.Core.Path.{_≡_, refl, ap, _∙_}
+use Prim.Native.Nat.{ℕ, _+_, _*_, _-_, _<_, _≤_}
+use lib.ListN.{length, getD, length-set}
+use lib.Seq.{paste, paste-zero}
+use Rattle.recipe_calls.proofs.Turns.{pasted}
 use borrow.Author.Needs.{needs}
 use Rattle.recipe_calls.proofs.rows.put_told.Statement.{statement}
 use Rattle.recipe_calls.proofs.rows.put_told.Tie as tie
@@ -22,14 +21,12 @@ loop-again : tie.Need-loop-again Inv-loop μ-loop
 loop-again c =
     let l = c .before .loop in
     let a = c .before .before .args in
-    let one : l .j + 1 ≡ suc (l .j) = omega arith in
     let h : 8 * a .i + l .j < length (a .row .now) = search needs in
     let k : l .j < length (a .t3) = search needs in (
       search needs,
       l .inv .1,
       length-set (l .row) (8 * a .i + l .j) (getD (a .t3) (l .j) 0) ∙ l .inv .2,
-      ap (λ (xs : List ℕ). set xs (8 * a .i + l .j) (getD (a .t3) (l .j) 0)) (l .inv .3)
-          ∙ (paste-suc (a .row .now) (8 * a .i) (a .t3) (l .j) 0 h k ∙ ap (paste (a .row .now) (8 * a .i) (a .t3)) (sym one)),
+      pasted (a .row .now) (l .row) (a .t3) (8 * a .i) (l .j) (l .inv .3) k h,
     )
 
 returns : tie.Need-returns Inv-loop μ-loop

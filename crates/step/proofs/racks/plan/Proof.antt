@@ -2,7 +2,6 @@
 use mathlib.Core.Path.{ap, sym}
 use mathlib.Core.Bool.{Bool, cond}
 use Rattle.step.specs.declared.racks.Fit.the-variants.{Fits}
-use Rattle.step.specs.declared.racks.Racked.{Racked}
 use Rattle.step.specs.Rack.{refusedRack}
 use Rattle.step.proofs.racks.plan.Statement.{statement}
 use Rattle.step.proofs.racks.plan.Tie as tie

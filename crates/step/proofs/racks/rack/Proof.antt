@@ -5,7 +5,7 @@ use mathlib.Core.Path.{_≡_, refl, sym, _∙_, ap, ap₂, subst}
 use Prim.Native.Nat.{ℕ, _+_, _-_, _*_, _<_, _≤_, _^_}
 use native.Mathlib.Omega.{arith}
 use mathlib.Core.Bool.{Bool, true, false}
-use mathlib.Core.List.{List, [], _∷_, map}
+use mathlib.Core.List.{List, [], _∷_}
 use mathlib.Core.WellFounded.{WellFounded, InvImage·wf}
 use lib.WfN.{Nat·lt-wfRel}
 use lib.Dec.{ltb}
@@ -27,7 +27,7 @@ use types.Kit.{Given, Item, Sq, runs, anyQ, ‵, raw, _⊛_, some, later, ⋆, a
 use types.Part.{whole, sub, look-in, agg}
 use types.Run.{look, look-raw, store-raw, init, store, forget, stop, hop, fld, from, load, lit, of-opd, bin, assigns, assigns-last, and-then, no-more, land, first, blocks, stays, leaves-loop, loops, again, Below, exec, returns, enter, alloc1, alloc0, params1, pass1, pass0, free1, free0}
 use sound.WpLaws.{fmOf, WpFn-mono}
-use denote.RattleType.{RattleType, owns}
+use denote.RattleType.{owns}
 use denote.Laws.{Is, shows}
 use denote.Memory.{pointee, mem as in-memory}
 use denote.Plain.{uint-vals, uint-tells, uint-makes, uint-lawful, uint-copy}
@@ -56,8 +56,8 @@ use Rattle.step.specs.declared.racks.Boxed.{Boxed}
 use Rattle.step.specs.declared.racks.Racked.{Racked}
 use Rattle.step.specs.Perform.{performOf}
 use Rattle.step.specs.Run.{runOf}
-use Rattle.step.specs.Rack.{planOf, stateOf, boxedOf, left, runsOf, rackOf}
-use Rattle.step.proofs.Boxes.{Within, plan-within, first-many, first-at, rowAt, row-length, row-still, row-next, row-last, planned}
+use Rattle.step.specs.Rack.{planOf, stateOf, boxedOf, left, runsOf, planned}
+use Rattle.step.proofs.Boxes.{Within, plan-within, first-many, first-at, rowAt, row-length, row-still, row-next, row-last}
 use Rattle.step.proofs.Walks.{rest}
 use Rattle.step.proofs.forms.Step as T
 use Rattle.step.proofs.registers.State as S
