@@ -141,12 +141,11 @@ impl Words {
     }
 
     pub fn shown(&self) -> String {
-        let lengths = [&self.d, &self.a].map(|row| row.length);
-        let [listing, flags] = [self.listing.len(), self.flags.length];
-        let rest = [self.starts.length, self.answers.length];
+        let rows = [self.listing.len(), self.flags.length, self.starts.length];
+        let words = [self.d.length, self.a.length, self.answers.length];
+        let budget = self.budget;
         format!(
-            "rack_run of {listing} steps, {flags} flags, {lengths:?} words of d and a, {rest:?} starts and words of answers, budget {}",
-            self.budget
+            "rack_run of steps, flags, start places {rows:?}, words of d, a, answers {words:?}, budget {budget}"
         )
     }
 }
