@@ -1,6 +1,8 @@
 //! The tests of the package, one program.
 
 mod common;
+#[path = "../../../../compare/src/rack_examples.rs"]
+mod rack_examples;
 mod racks;
 mod recipes;
 mod refusals;

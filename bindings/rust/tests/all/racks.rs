@@ -3,6 +3,7 @@
 use gromavelush::*;
 
 use crate::common::{Random, forms};
+use crate::rack_examples::{Example, Set, examples};
 
 /// A slot before a rack, and a spare start place.
 const JUNK: u64 = 0xA5A5_A5A5_A5A5_A5A5;
@@ -61,108 +62,48 @@ fn told(ran: &Ran) -> [u64; 8] {
 
 // ---- the examples
 
-fn number(text: &str) -> usize {
-    text.parse().unwrap_or_else(|_| panic!("{text:?} is no number"))
+fn state(set: &Set) -> State {
+    State { d: set.d, a: set.a, flags: Flags::of(set.flags) }
 }
 
-/// Steps as operation, size, source's kind and number, destination's number.
-fn listing(text: &str) -> Listing {
-    let word = |step: &str| {
-        let bytes = step.split_whitespace().map(|byte| number(byte) as u64);
-        bytes.enumerate().map(|(at, byte)| byte << (8 * at)).sum::<u64>()
-    };
-    let steps = text.split_terminator(',').map(|step| Step::try_from(word(step)).expect("a step"));
+fn listing(steps: &[[u8; 5]]) -> Listing {
+    let word = |step: &[u8; 5]| step.iter().rev().fold(0, |word, &byte| word << 8 | u64::from(byte));
+    let steps = steps.iter().map(|step| Step::try_from(word(step)).expect("a step"));
     Listing::new(&steps.collect::<Vec<_>>()).expect("a few steps")
 }
 
-/// A register set in the bench's words.
-fn state(text: &str) -> State {
-    let mut state = State::default();
-    let mut ccr = 0;
-    for word in text.split_whitespace() {
-        let (name, value) = word.split_once('=').expect("a word with =");
-        match (name.split_at(1), "CVZNX".find(name)) {
-            (("D", register), _) => {
-                state.d[number(register)] = u32::from_str_radix(value, 16).expect("hexadecimal")
-            }
-            (_, Some(bit)) => ccr |= (number(value) as u8) << bit,
-            _ => panic!("{word:?} names no register and no flag"),
-        }
-    }
-    State { flags: Flags::of(ccr), ..state }
-}
-
-/// An end with a class or number and a place, then next place, steps and clocks.
-fn answer(fields: &[&str]) -> [u64; 8] {
-    let end: Vec<&str> = fields[0].split(' ').collect();
-    let which =
-        ["Finished", "Budget", "Trapped", "Refused"].iter().position(|&name| name == end[0]).expect("an end");
-    let mut told = [which as u64, 0, 0, 0, 0, 0, 0, 0];
-    let numbers = end[1..].iter().chain(&fields[1..]).map(|field| number(field) as u64);
-    told[if end.len() > 1 { 1 } else { 3 }..6]
-        .iter_mut()
-        .zip(numbers)
-        .for_each(|(told, number)| *told = number);
-    told
-}
-
-/// The boxes of a rack: states and start places before; states and answers after, none of a refused one.
-fn boxes(lines: &[Vec<&str>]) -> (Vec<State>, Vec<usize>, Vec<State>, Vec<[u64; 8]>) {
-    let (mut before, mut starts, mut after, mut answers) = (vec![], vec![], vec![], vec![]);
-    for line in lines {
-        for _ in 0..number(line[1]) {
-            before.push(state(line[2]));
-            starts.push(number(line[3]));
-            if line.len() > 4 {
-                answers.push(answer(&line[4..8]));
-                after.push(state(line[8]));
-            }
-        }
-    }
-    (before, starts, after, answers)
-}
-
-fn try_example(rack_line: &[&str], lines: &[Vec<&str>]) {
-    let name = rack_line[1];
-    let [budget, sets, places, slots, refusal, run] = std::array::from_fn(|at| number(rack_line[3 + at]));
-    let (before, mut starts, after, answers) = boxes(lines);
-    assert_eq!(
-        (before.len(), answers.len()),
-        (sets, if refusal == 0 { run } else { 0 }),
-        "{name}: the example itself"
-    );
-    starts.resize(places, JUNK as usize);
-    let listing = listing(rack_line[2]);
-    let mut rows = Rows::of(&before, slots);
-    let wanted = if refusal == 0 { rows.left(&after, &answers) } else { rows.clone() };
-    let got = rows.run(&listing, &starts, budget as u32).map_err(|refusal| usize::from(refusal.number()));
-    assert_eq!(got, if refusal == 0 { Ok(run) } else { Err(refusal) }, "{name}");
+/// By rows of numbers, and where there is a slot for each box by states.
+fn try_example(example: &Example) {
+    let Example { name, budget, slots, boxes, .. } = example;
+    let before: Vec<State> = boxes.iter().map(|each| state(&each.set)).collect();
+    let mut starts: Vec<usize> = boxes.iter().map(|each| each.start).collect();
+    starts.resize(example.starts, JUNK as usize);
+    let left = boxes.iter().filter_map(|each| each.left.as_ref());
+    let (answers, after): (Vec<[u64; 8]>, Vec<State>) = left
+        .map(|([end, which, place, next, steps, clocks], set)| {
+            ([*end, *which, *place, *next, *steps, *clocks, 0, 0], state(set))
+        })
+        .unzip();
+    let accepted = example.number == 0;
+    let listing = listing(&example.steps);
+    let mut rows = Rows::of(&before, *slots);
+    let wanted = if accepted { rows.left(&after, &answers) } else { rows.clone() };
+    let got = rows.run(&listing, &starts, *budget).map_err(|refusal| refusal.number().into());
+    assert_eq!(got, if accepted { Ok(example.run) } else { Err(example.number) }, "{name}");
     assert_eq!(rows, wanted, "{name}");
-    if slots >= sets {
+    if *slots >= before.len() {
         let mut states = before.clone();
-        let got = rack(&listing, &mut states, &starts, budget as u32);
-        assert_eq!(states, if refusal == 0 { after } else { before }, "{name}");
-        assert_eq!(
-            got.map(|answers| answers.iter().map(told).collect()).ok(),
-            (refusal == 0).then_some(answers),
-            "{name}"
-        );
+        let got = rack(&listing, &mut states, &starts, *budget);
+        assert_eq!(states, if accepted { after } else { before }, "{name}");
+        assert_eq!(got.ok().map(|ran| ran.iter().map(told).collect()), accepted.then_some(answers), "{name}");
     }
 }
 
 #[test]
 fn the_examples() {
-    let text = include_str!("../../../../examples/racks.tsv");
-    let lines: Vec<Vec<&str>> =
-        text.lines().filter(|line| !line.starts_with('#')).map(|line| line.split('\t').collect()).collect();
-    let mut racks = 0;
-    for (at, line) in lines.iter().enumerate().filter(|(_, line)| line[0] == "rack") {
-        let many = lines[at + 1..].iter().take_while(|line| line[0] == "box").count();
-        try_example(line, &lines[at + 1..][..many]);
-        racks += 1 + many;
+    for example in examples(concat!(env!("CARGO_MANIFEST_DIR"), "/../../examples/racks.tsv")) {
+        try_example(&example);
     }
-    assert_eq!(racks, lines.len(), "a line is neither a rack nor a box");
-    assert!(racks > 30, "there are examples");
 }
 
 // ---- against single runs
