@@ -268,7 +268,7 @@ class NotTaken(Exception):
     """What bench says of a file of boxes that it does not take, on standard error."""
 
 
-def seen(word):
+def visible(word):
     """A word as bench shows it: a tab as >, and what can't be shown, or would be taken for a tab, as ?."""
     shown = (ord(">") if b == 9 else b if 32 <= b <= 126 and b != ord(">") else ord("?") for b in word[:SHOWN])
     return bytes(shown) + b".." * (len(word) > SHOWN)
@@ -280,9 +280,9 @@ def box_of(asked, line, where):
     for word in re.findall(rb"[^ \t]+", line):
         found, thing = BOX_WORD.fullmatch(word), word.split(b"=")[0]
         if not found:
-            raise NotTaken(where + seen(word) + BOX_FORMS + b"\n")
+            raise NotTaken(where + visible(word) + BOX_FORMS + b"\n")
         if thing in things:
-            raise NotTaken(where + seen(word) + AGAIN)
+            raise NotTaken(where + visible(word) + AGAIN)
         things.add(thing)
         kind, r, value, flag, digit, place = found.groups()
         if kind:
