@@ -1,7 +1,7 @@
 -- What the proofs of several functions use, and the laws of the contracts.
 mod Naming
 mod Turns
-mod Racking
+pub mod Racking
 mod Telling
 pub mod Round
 pub mod Agree

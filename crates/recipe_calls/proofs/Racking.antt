@@ -4,12 +4,13 @@
 --                               turn, `filled-rest` what a turn reads, `filled-all` behind the loop
 --     After                     the rows of a rack after so many boxes: `after-none`, `after-next`, `after-length`, `after-all`
 --     room-in                   a row has eight words for each box
+--     rack-single               each box of a rack is what `listing_run` leaves of it, and tells
 use Prim.Native.Nat.{ℕ, zero, suc, _+_, _*_, _/_, _≤_, _<_, min}
 use mathlib.Core.Path.{_≡_, refl, sym, ap, ap₂, subst, subst⁻¹, _∙_}
 use mathlib.Core.List.{List, [], _∷_, _++_, map, append-assoc, append-nil}
 use native.Mathlib.Omega.{arith}
-use lib.ListN.{length, take, drop, getD, set, length-append, length-map}
-use lib.Seq.{take-all, length-take-le, take-append-seam, drop-append-seam, drop-append-add, drop-drop, paste}
+use lib.ListN.{length, take, drop, getD, set, length-append, length-drop, length-map, List·getD-map}
+use lib.Seq.{take-all, length-take-le, take-append-seam, drop-append-seam, drop-append-add, drop-drop, take-at, paste}
 use Rattle.alu.specs.ConditionCodes.{ccrOf}
 use Rattle.step.specs.declared.registers.State.{State}
 use Rattle.step.specs.declared.forms.Step.{Step}
@@ -20,11 +21,13 @@ use Rattle.step.specs.declared.runs.End.the-variants.{Finished, Budget, Trapped
 use Rattle.step.specs.Run.{ends, runOf, endNumbers}
 use Rattle.step.specs.Lent.{over}
 use Rattle.step.specs.declared.racks.Racked.{Racked}
-use Rattle.step.specs.Rack.{fitNumber, runsOf}
-use Rattle.step.proofs.Rows.{over-length, over-put, over-past}
-use Rattle.step.proofs.Boxes.{first-many, first-at}
+use Rattle.step.specs.declared.racks.Fit.the-variants.{Fits}
+use Rattle.step.specs.Rack.{fitNumber, planOf, runsOf}
+use Rattle.step.proofs.Rows.{over-length, over-put, over-before, over-past}
+use Rattle.step.proofs.Boxes.{plan-fits, plan-fitting, first-many, first-at}
+use Rattle.step.proofs.Kept.{AsMany, step-kept, run-kept}
 use Rattle.recipe_calls.specs.Words.{firstOf}
-use Rattle.recipe_calls.specs.Calls.{stateOf, ranTold, setsOf, joined, rackLeft, rackBy}
+use Rattle.recipe_calls.specs.Calls.{StateLeft, stateOf, stateLeft, ranTold, ranLeft, runWords, setsOf, joined, rackLeft, rackBy, rackWords}
 use Rattle.recipe_calls.specs.Boxes.{eightAt, boxState, BoxPut}
 
 -- ---- the register sets
@@ -101,7 +104,7 @@ told-many (Trapped trap place) rest = omega arith
 told-many (Refused fault place) rest = omega arith
 
 -- what would stand past a row's end; it is nowhere read
-none : Ran
+abbrev none : Ran
 none = ends Finished (stateOf [] [] 0) 0
 
 abbrev ccrLeft : Ran → ℕ
@@ -195,3 +198,54 @@ pub record Room (n d a answers : ℕ) : Type 0 where
 
 pub room-in : (n d a answers : ℕ) → n ≤ min (min d a) answers / 8 → Room n d a answers
 room-in n d a answers h = record { in-d = omega arith; in-a = omega arith; in-answers = omega arith }
+
+-- ---- box by box
+
+-- the words of box i, where each run left eight
+joined-at : (g : Ran → List ℕ) (rs : List Ran) (i : ℕ) (rest : List ℕ) → ((j : ℕ) → j < length rs → length (g (getD rs j none)) ≡ 8) → i < length rs
+    → take 8 (drop (8 * i) (joined g rs ++ rest)) ≡ g (getD rs i none)
+joined-at g [] i rest each h = absurd (omega arith)
+joined-at g (r ∷ rs) zero rest each h =
+    ap (take 8) (append-assoc (g r) (joined g rs) rest) ∙ take-at (g r) (joined g rs ++ rest) 8 (each 0 (omega arith))
+joined-at g (r ∷ rs) (suc i) rest each h =
+    let place : 8 * suc i ≡ length (g r) + 8 * i = omega (arith, each 0 (omega arith)) in
+    ap₂ (λ (k : ℕ) (row : List ℕ). take 8 (drop k row)) place (append-assoc (g r) (joined g rs) rest)
+    ∙ (ap (take 8) (drop-append-add (g r) (joined g rs ++ rest) (8 * i)) ∙ joined-at g rs i rest (λ j k. each (suc j) (omega (arith, k))) (omega arith))
+
+-- Each box of a rack that is not refused is what `listing_run` leaves of it, and tells
+pub rack-single :
+    (listing d a flags starts : List ℕ) (budget : ℕ) (answers : List ℕ) →
+    planOf (length flags) (length starts) (min (min (length d) (length a)) (length answers) / 8) .fit ≡ Fits → (i : ℕ) → i < length flags →
+    let k = rackWords listing d a flags starts budget answers in
+    stateLeft (eightAt i (k .d)) (eightAt i (k .a)) (getD (k .flags) i 0) (eightAt i (k .answers))
+    ≡ runWords listing (eightAt i d) (eightAt i a) (getD flags i 0) (getD starts i 0) budget
+rack-single listing d a flags starts budget answers fits i inside =
+    let n = length flags in
+    let slots = min (min (length d) (length a)) (length answers) / 8 in
+    let h = plan-fitting n (length starts) slots fits in
+    let room = room-in n (length d) (length a) (length answers) (h .slots) in
+    let l = firstOf listing in
+    let rs = runs l n d a flags starts budget answers in
+    let many = runs-many l n d a flags starts budget answers (omega arith) (h .places) in
+    let ran : (j : ℕ) → j < n → getD rs j none ≡ runOf performOf l (boxState j d a flags) (getD starts j 0) budget =
+    λ j k. run-at l n d a flags starts budget answers (omega arith) (h .places) j k in
+    let kept : (j : ℕ) → j < n → AsMany (boxState j d a flags) (getD rs j none .state) =
+    λ j k. subst⁻¹ (λ (r : Ran). AsMany (boxState j d a flags) (r .state)) (ran j k) (run-kept performOf l step-kept (boxState j d a flags) (getD starts j 0) budget) in
+    let eight : (row : List ℕ) (j : ℕ) → j < n → 8 * n ≤ length row → length (eightAt j row) ≡ 8 =
+    λ row j k m. length-take-le 8 (drop (8 * j) row) (omega (arith, k, m, length-drop (8 * j) row)) in
+    let each-d : (j : ℕ) → j < length rs → length (getD rs j none .state .d) ≡ 8 =
+    λ j k. let g : j < n = omega (arith, k, many) in kept j g .data-registers ∙ eight d j g (room .in-d) in
+    let each-a : (j : ℕ) → j < length rs → length (getD rs j none .state .a) ≡ 8 =
+    λ j k. let g : j < n = omega (arith, k, many) in kept j g .address-registers ∙ eight a j g (room .in-a) in
+    let here : i < length rs = omega (arith, inside, many) in
+    let left : Racked → StateLeft = λ p.
+    let k = rackBy listing d a flags starts budget answers p in stateLeft (eightAt i (k .d)) (eightAt i (k .a)) (getD (k .flags) i 0) (eightAt i (k .answers)) in
+    let words : left (record { fit = Fits; boxes = n }) ≡ ranLeft (getD rs i none) =
+    rw (
+      joined-at (λ r. r .state .d) rs i (drop (length (joined (λ r. r .state .d) rs)) d) each-d here,
+      joined-at (λ r. r .state .a) rs i (drop (length (joined (λ r. r .state .a) rs)) a) each-a here,
+      over-before (map ccrLeft rs) flags i 0 (omega (arith, here, length-map rs ccrLeft)),
+      List·getD-map ccrLeft rs i none,
+      joined-at ranTold rs i (drop (length (joined ranTold rs)) answers) (λ j k. told-many (getD rs j none .end) _) here,
+    ) in
+    ap left (plan-fits n (length starts) slots h) ∙ (words ∙ ap ranLeft (ran i inside))

@@ -6,6 +6,7 @@ pub mod Leading
 pub mod Resumed
 pub mod Rows
 pub mod Boxes
+pub mod Kept
 mod Running
 mod Stepping
 pub mod Numbers
