@@ -21,12 +21,15 @@ pub mod document;
 pub mod machine;
 pub mod oracle;
 pub mod packed;
+pub mod places;
 #[cfg(feature = "port")]
 pub mod port;
 #[cfg(feature = "step")]
 pub mod ported;
 #[cfg(feature = "recipes")]
 pub mod ported_recipes;
+#[cfg(feature = "alone")]
+pub mod ported_rounds;
 #[cfg(feature = "step")]
 pub mod rack_checks;
 pub mod rack_examples;
@@ -38,7 +41,11 @@ pub mod racks;
 pub mod random_racks;
 pub mod recipes;
 pub mod refusals;
+#[cfg(any(feature = "alone", feature = "shipped"))]
+pub mod rounds;
 pub mod shim;
+#[cfg(feature = "shipped")]
+pub mod shipped_rounds;
 pub mod slips;
 pub mod steps;
 pub mod texts;

@@ -148,8 +148,8 @@ impl Machine {
         }
     }
 
-    /// A run of steps that are all done.
-    #[inline(never)]
+    /// A run of steps that are all done. It becomes part of its caller, as `tuned::run` does.
+    #[inline(always)]
     pub fn run(&mut self, listing: &[Step], start: usize, budget: u32) -> Ran {
         let (mut next, mut steps, mut clocks) = (start, 0u32, 0u64);
         loop {

@@ -3,18 +3,32 @@
 //! layouts are those of `steps`; a digest of all answers tells if one is not.
 
 use crate::recipes::SLOTS;
-use crate::steps::{Class, End, Fault, Ran, Slice, State, Step};
+use crate::steps::{Class, End, Fault, Flags, Ran, Slice, State, Step};
 use std::mem::MaybeUninit;
 
 /// step::runs::Ran
 #[repr(C)]
 #[derive(Clone, Copy)]
-struct Answer {
-    end: End,
-    state: State,
-    next: usize,
-    steps: u32,
-    clocks: u64,
+pub struct Answer {
+    pub end: End,
+    pub state: State,
+    pub next: usize,
+    pub steps: u32,
+    pub clocks: u64,
+}
+
+impl Answer {
+    pub fn ran(&self) -> Ran {
+        Ran { end: self.end, next: self.next, steps: self.steps, clocks: self.clocks }
+    }
+}
+
+/// step::runs::Left
+#[repr(C)]
+#[derive(Clone, Copy)]
+pub struct Left {
+    pub ran: Ran,
+    pub flags: Flags,
 }
 
 /// step::steps::Outcome
@@ -53,7 +67,7 @@ struct Racked {
 }
 
 unsafe extern "C" {
-    fn step_runs_run_array(
+    pub fn step_runs_run_array(
         answer: *mut Answer,
         listing: *const [Step; SLOTS],
         count: usize,
@@ -61,10 +75,19 @@ unsafe extern "C" {
         start: usize,
         budget: u32,
     );
-    fn step_lent_run(
+    pub fn step_lent_run(
         answer: *mut Answer,
         listing: *const Slice<Step>,
         state: *const State,
+        start: usize,
+        budget: u32,
+    );
+    pub fn step_lent_run_in(
+        answer: *mut Left,
+        listing: *const Slice<Step>,
+        d: *mut [u32; 8],
+        a: *mut [u32; 8],
+        flags: *const Flags,
         start: usize,
         budget: u32,
     );
@@ -87,7 +110,7 @@ fn answered(state: &mut State, ask: impl FnOnce(*mut Answer, *const State)) -> R
     // SAFETY: the port has written all of it.
     let answer: Answer = unsafe { answer.assume_init() };
     *state = answer.state;
-    Ran { end: answer.end, next: answer.next, steps: answer.steps, clocks: answer.clocks }
+    answer.ran()
 }
 
 pub fn run_array(listing: &[Step; SLOTS], count: usize, state: &mut State, start: usize, budget: u32) -> Ran {
@@ -101,6 +124,19 @@ pub fn run(listing: &[Step], state: &mut State, start: usize, budget: u32) -> Ra
     let slice = Slice::lent(listing);
     // SAFETY: as above.
     answered(state, |answer, state| unsafe { step_lent_run(answer, &slice, state, start, budget) })
+}
+
+pub fn run_in(listing: &[Step], state: &mut State, start: usize, budget: u32) -> Ran {
+    let slice = Slice::lent(listing);
+    let State { d, a, flags } = state;
+    let mut left = MaybeUninit::uninit();
+    // SAFETY: as above; the registers that are written overlap nothing.
+    let left: Left = unsafe {
+        step_lent_run_in(left.as_mut_ptr(), &slice, d, a, flags, start, budget);
+        left.assume_init()
+    };
+    *flags = left.flags;
+    left.ran
 }
 
 /// The refusal's number, and how many boxes were run.

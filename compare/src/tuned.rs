@@ -341,7 +341,8 @@ impl State {
     }
 }
 
-#[inline(never)]
+/// It becomes part of its caller, which may have its answer written where it wants it.
+#[inline(always)]
 pub fn run(listing: &[Step], state: &mut State, start: usize, budget: u32) -> Ran {
     let (mut next, mut steps, mut clocks) = (start, 0u32, 0u64);
     if start > listing.len() {

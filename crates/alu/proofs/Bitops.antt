@@ -4,7 +4,6 @@
 --     with-lt                  it fits n bits if the number does and k is below n
 -- and how a processor makes it, by one law of words and masks (`by-mask`):
 --     set-bit, clear-bit, change-bit   `|`, `& !` and `^` with the weight of bit k
---     is-clear                 the digit of bit k is 0 where it is clear
 -- Assumes nothing.
 use mathlib.Core.Path.{_≡_, refl, sym, ap, ap₂, _∙_}
 use mathlib.Core.Bool.{Bool, true, false, not, cond}
@@ -19,7 +18,7 @@ use lib.Pow.{pow-pos, pow-add, high, split, shr-shr, shr-lt, shr-mod, ones-split
 use lib.Pow as pow
 use lib.Bits.{bitAnd, bitOr, bitXor, and-block, or-block, xor-block, and-mask, or-zero-r, xor-zero-r}
 use Rattle.alu.specs.Bits.{low, bit, digit, join, withBit}
-use Rattle.alu.proofs.Bounds.{digit-le, low-lt, below-2}
+use Rattle.alu.proofs.Bounds.{digit-le, low-lt}
 use Rattle.alu.proofs.Turns.{digit-lowest, is-digit, bit-low}
 
 -- ---- the three parts
@@ -85,13 +84,6 @@ with-bit i k b x = first (decLt i k) where
   first : Dec (i < k) → Same
   first (yes i<k) = lower i<k
   first (no not-lower) = second not-lower (decLt k i)
-
--- a bit is clear where its digit is 0
-not-one : (r : ℕ) → r < 2 → eqb r 0 ≡ not (eqb r 1)
-not-one = below-2 (λ r. eqb r 0 ≡ not (eqb r 1)) refl refl
-
-pub is-clear : (k x : ℕ) → eqb (x / 2 ^ k % 2) 0 ≡ not (bit k x)
-is-clear k x = not-one (x / 2 ^ k % 2) (omega arith)
 
 -- made what it is, nothing changes
 pub with-own : (k x : ℕ) → withBit k (bit k x) x ≡ x

@@ -1,16 +1,20 @@
--- The top bit of `a & b`, `a | b`, `a ^ b` and `!a` is that operation on the top bits.
+-- Words bit by bit:
+--     top-and, top-or, top-xor     the top bit of `a & b`, `a | b` and `a ^ b` is that operation on the top bits
+--     low-mask                     `&` with n set bits leaves the low n bits
+--     clear-weight, top-weight     `&` with the weight of a bit tells the bit
 -- Assumes nothing.
 use mathlib.Core.Path.{_≡_, _∙_, ap, refl}
 use mathlib.Core.Bool.{Bool, true, false, not, _&&_, _||_, xor}
-use Prim.Native.Nat.{ℕ, _-_, _/_, _%_, _^_, _<_}
-use native.Mathlib.Nat.{mod-lt, mod-eq-of-lt}
+use Prim.Native.Nat.{ℕ, _+_, _-_, _*_, _/_, _%_, _^_, _≤_, _<_}
+use native.Mathlib.Nat.{mod-lt}
 use native.Mathlib.Omega.{arith}
+use borrow.Author.Tests.{eq-eqb, ne-eqb}
 use lib.Dec.{eqb, lit<}
-use lib.Bits.{bitAnd, bitOr, bitXor, and-shr, or-shr, xor-shr, and-mod, or-mod, xor-mod, and-mask, xor-add-and}
-use Rattle.alu.specs.declared.types.Size.{Size}
-use Rattle.alu.specs.declared.types.Size.the-variants.{Byte, Word, Long}
-use Rattle.alu.specs.Bits.{bitsOf, top}
+use lib.Pow.{pow-pos, pow-add}
+use lib.Bits.{bitAnd, bitOr, bitXor, and-shr, or-shr, xor-shr, and-mod, or-mod, xor-mod, and-mask, and-high}
+use Rattle.alu.specs.Bits.{low, bit, top}
 use Rattle.alu.proofs.Bounds.{below-2}
+use Rattle.alu.proofs.Turns.{low-low}
 
 -- an operation f on words that goes bit by bit, and does g on single bits
 module _ (f : ℕ → ℕ → ℕ) (g : Bool → Bool → Bool)
@@ -40,20 +44,23 @@ pub top-xor : (n a b : ℕ) → top n (bitXor a b) ≡ xor (top n a) (top n b)
 unfolding xor
 top-xor = bit-by-bit bitXor xor xor-shr xor-mod refl refl refl refl
 
--- `!a` is `a ^ FFFFFFFF`
-top-ones : (size : Size) → top (bitsOf size) (2 ^ 32 - 1) ≡ true
+-- `x & (2 ^ n - 1)` of a number cut to 32 bits is its low n bits
+pub low-mask : (n x : ℕ) → n ≤ 32 → bitAnd (low 32 x) (2 ^ n - 1) ≡ low n x
+low-mask n x n≤32 = and-mask (low 32 x) n ∙ low-low n 32 x n≤32
+
+-- `x & 2 ^ k` is 0 where bit k is clear
+digit-weight : (k r : ℕ) → r < 2 → eqb (r * 2 ^ k) 0 ≡ not (eqb r 1)
+digit-weight k = below-2 (λ r. eqb (r * 2 ^ k) 0 ≡ not (eqb r 1)) (eq-eqb (0 * 2 ^ k) 0 (omega arith)) (ne-eqb (1 * 2 ^ k) 0 (λ e. omega (arith, pow-pos k)))
+
+pub clear-weight : (k x : ℕ) → eqb (bitAnd x (2 ^ k)) 0 ≡ not (bit k x)
+clear-weight k x =
+    let one : 2 ^ k ≡ 2 ^ (1 + k) - 2 ^ k = omega (arith, pow-add 2 1 k) in
+    ap (λ (t : ℕ). eqb (bitAnd x t) 0) one ∙ ap (λ (t : ℕ). eqb t 0) (and-high x 1 k) ∙ digit-weight k (x / 2 ^ k % 2) (mod-lt (x / 2 ^ k) (lit< tt))
+
+not-not : (b : Bool) → not (not b) ≡ b
+not-not true = refl
+not-not false = refl
+
+pub top-weight : (n x : ℕ) → not (eqb (bitAnd x (2 ^ (n - 1))) 0) ≡ top n x
 unfolding top
-top-ones Byte = refl
-top-ones Word = refl
-top-ones Long = refl
-
-xor-true : (b : Bool) → xor b true ≡ not b
-unfolding xor
-xor-true true = refl
-xor-true false = refl
-
-pub top-not : (size : Size) {a : ℕ} → a < 2 ^ 32 → top (bitsOf size) (2 ^ 32 - 1 - a) ≡ not (top (bitsOf size) a)
-top-not size {a} a-low =
-    let all : bitAnd a (2 ^ 32 - 1) ≡ a = and-mask a 32 ∙ mod-eq-of-lt a-low in
-    let turned : 2 ^ 32 - 1 - a ≡ bitXor a (2 ^ 32 - 1) = omega (arith, xor-add-and a (2 ^ 32 - 1)) in
-    rw (turned, top-xor (bitsOf size) a (2 ^ 32 - 1), top-ones size) (xor-true (top (bitsOf size) a))
+top-weight n x = ap not (clear-weight (n - 1) x) ∙ not-not (bit (n - 1) x)

@@ -10,6 +10,7 @@ use mathlib.Core.List.{List, [], _∷_}
 use contract.Lifetimes.{Lfts}
 use Rattle.alu.proofs.types.number.Reads as number
 use Rattle.alu.proofs.types.class.Reads as class
+use Rattle.alu.proofs.types.width_of.Reads as width-of
 use Rattle.alu.proofs.types.masked.Reads as masked
 use Rattle.alu.proofs.types.top.Reads as top
 use Rattle.alu.proofs.types.digit.Reads as digit
@@ -67,6 +68,7 @@ pub determined : List Fixed
 determined =
     fixed number.Learnt (one-equation _) ∷
     fixed class.Learnt (one-equation _) ∷
+    fixed width-of.Learnt (one-equation _) ∷
     fixed masked.Learnt (one-equation _) ∷
     fixed top.Learnt (one-equation _) ∷
     fixed digit.Learnt (one-equation _) ∷

@@ -1,15 +1,14 @@
--- The Manual's V and C in the forms that the code and the laws use: as one word whose top bit is the flag, and SUB's and NEG's by ADD's.
+-- The Manual's V and C in the forms that the code and the laws use: V as one word whose top bit is the flag, and SUB's and NEG's by ADD's.
 -- A formula of three bits is settled by its eight settings. Assumes nothing.
 use mathlib.Core.Path.{_≡_, refl}
-use Prim.Native.Nat.{ℕ, _-_, _^_, _<_}
-use mathlib.Core.Bool.{Bool, true, false, not, _&&_, _||_, xor, Bool·beq}
+use Prim.Native.Nat.{ℕ}
+use mathlib.Core.Bool.{Bool, true, false, _&&_, xor, Bool·beq}
 use lib.Dec.{T}
-use lib.Bits.{bitAnd, bitOr, bitXor}
-use Rattle.alu.specs.declared.types.Size.{Size}
-use Rattle.alu.specs.Bits.{bitsOf, top}
+use lib.Bits.{bitAnd, bitXor}
+use Rattle.alu.specs.Bits.{top}
 use Rattle.alu.specs.ConditionCodes.{addV, addC, subV, subC, negV, negC}
 use Rattle.alu.specs.Sums.{atBoth}
-use Rattle.alu.proofs.Bitwise.{top-and, top-or, top-xor, top-not}
+use Rattle.alu.proofs.Bitwise.{top-and, top-xor}
 
 at : (test : Bool → Bool) → T (atBoth test) → (b : Bool) → T (test b)
 unfolding atBoth
@@ -40,26 +39,14 @@ agree f g passed s d r =
     let at-d = at (λ y. atBoth (λ z. agreeing f g s y z)) at-s d in
     beq-same (f s d r) (g s d r) (at (λ z. agreeing f g s d z) at-d r)
 
--- the source's words of overflow and carry
+-- the source's word of overflow
 addV-short : (s d r : Bool) → (xor s r && xor d r) ≡ addV s d r
 unfolding xor atBoth agreeing
 addV-short = agree (λ s d r. xor s r && xor d r) addV tt
 
-addC-short : (s d r : Bool) → (s && d || not r && (s || d)) ≡ addC s d r
-unfolding atBoth agreeing
-addC-short = agree (λ s d r. s && d || not r && (s || d)) addC tt
-
 pub overflow-word : (n s d r : ℕ) → top n (bitAnd (bitXor s r) (bitXor d r)) ≡ addV (top n s) (top n d) (top n r)
 overflow-word n s d r =
     rw (top-and n (bitXor s r) (bitXor d r), top-xor n s r, top-xor n d r) (addV-short (top n s) (top n d) (top n r))
-
-pub carry-word :
-    (size : Size) (s d : ℕ) {r : ℕ} → r < 2 ^ 32 →
-    top (bitsOf size) (bitOr (bitAnd s d) (bitAnd (2 ^ 32 - 1 - r) (bitOr s d))) ≡ addC (top (bitsOf size) s) (top (bitsOf size) d) (top (bitsOf size) r)
-carry-word size s d {r} r-low =
-    let n = bitsOf size in
-    rw (top-or n (bitAnd s d) (bitAnd (2 ^ 32 - 1 - r) (bitOr s d)), top-and n s d, top-and n (2 ^ 32 - 1 - r) (bitOr s d), top-not size r-low, top-or n s d)
-    (addC-short (top n s) (top n d) (top n r))
 
 -- d - s = r is s + r = d: the formulas of SUB are those of ADD with the result and the destination exchanged
 pub swapV : (s d r : Bool) → addV s r d ≡ subV s d r

@@ -1,15 +1,15 @@
 pub mod Bounds
 pub mod Signed
+pub mod Turns
 mod Bitwise
 mod Formulas
-mod Whole
 pub mod Minus
 pub mod Laws
+mod Whole
 pub mod Integers
 pub mod Wide
 pub mod Extension
 pub mod Checks
-pub mod Turns
 pub mod Rings
 pub mod Complement
 pub mod Bitops

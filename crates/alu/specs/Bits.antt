@@ -7,6 +7,7 @@ use lib.IntN.{ℤ, pos, negℤ, _-ℤ_}
 use lib.Signed.{leZ, ltZ}
 use Rattle.alu.specs.declared.types.Size.{Size}
 use Rattle.alu.specs.declared.types.Size.the-variants.{Byte, Word, Long}
+use Rattle.alu.specs.declared.types.Width.{Width}
 
 -- how many bits a size has
 abbrev pub bitsOf : Size → ℕ
@@ -29,6 +30,10 @@ lowest x = eqb (x % 2) 1
 -- the highest of n bits: the Manual's Sm, Dm, Rm
 unfoldable pub top : (n x : ℕ) → Bool
 top n x = bit (n - 1) x
+
+-- n bits that are all set, and the highest of them alone
+abbrev pub widthOf : ℕ → Width
+widthOf n = record { mask = 2 ^ n - 1; top = 2 ^ (n - 1) }
 
 -- a flag as a number
 abbrev pub digit : Bool → ℕ

@@ -2,7 +2,7 @@
 // its order. They have the long form alone. In a contract `accepted` is the definition of specs/, not the
 // function.
 ghost use mathlib.Core.Path.{_≡_};
-ghost use Prim.Native.Nat.{_<_, _^_};
+ghost use Prim.Native.Nat.{ℕ, _<_, _^_};
 ghost use mathlib.Core.Bool.{cond};
 ghost use lib.Dec.{ltb};
 ghost use Rattle.alu.specs.Answers.{accepted, onlyLong};
@@ -36,15 +36,14 @@ fn upper_figure(k: u32) -> u32
     if k < 16 { 6 } else { 8 }
 }
 
-// Z tells whether bit k was clear; no other flag is touched.
-fn bit_answer(k: u32, value: u32, result: u32, flags: Flags, clocks: u32) -> Answer
-    requires { ⌜ k < 32 ⌝ }
-    ensures { λ r. ⌜ r ≡ accepted result (bitFlags k value flags) clocks ⌝ }
+// Z tells whether the bit of weight w was clear; no other flag is touched.
+fn bit_answer(w: u32, value: u32, result: u32, flags: Flags, clocks: u32) -> Answer
+    ensures { λ r. ⌜ ((k : ℕ) → w ≡ 2 ^ k → r ≡ accepted result (bitFlags k value flags) clocks) ⌝ }
 {
     let new = Flags {
         x: flags.x,
         n: flags.n,
-        z: (value >> k) % 2 == 0,
+        z: value & w == 0,
         v: flags.v,
         c: flags.c,
     };
@@ -67,7 +66,8 @@ pub fn exec_btst(size: Size, number: u32, value: u32, flags: Flags) -> Answer
     ensures { λ r. ⌜ r ≡ bitopOf BitOp.Btst size number value flags ⌝ }
 {
     let k = number % 32;
-    let answer = bit_answer(k, value, value, flags, 6);
+    let w = weight(k);
+    let answer = bit_answer(w, value, value, flags, 6);
     only_long(size, flags, answer)
 }
 
@@ -76,8 +76,9 @@ pub fn exec_bset(size: Size, number: u32, value: u32, flags: Flags) -> Answer
     ensures { λ r. ⌜ r ≡ bitopOf BitOp.Bset size number value flags ⌝ }
 {
     let k = number % 32;
-    let result = value | weight(k);
-    let answer = bit_answer(k, value, result, flags, upper_figure(k));
+    let w = weight(k);
+    let result = value | w;
+    let answer = bit_answer(w, value, result, flags, upper_figure(k));
     only_long(size, flags, answer)
 }
 
@@ -86,8 +87,9 @@ pub fn exec_bclr(size: Size, number: u32, value: u32, flags: Flags) -> Answer
     ensures { λ r. ⌜ r ≡ bitopOf BitOp.Bclr size number value flags ⌝ }
 {
     let k = number % 32;
-    let result = value & !weight(k);
-    let answer = bit_answer(k, value, result, flags, 10);
+    let w = weight(k);
+    let result = value & !w;
+    let answer = bit_answer(w, value, result, flags, 10);
     only_long(size, flags, answer)
 }
 
@@ -96,7 +98,8 @@ pub fn exec_bchg(size: Size, number: u32, value: u32, flags: Flags) -> Answer
     ensures { λ r. ⌜ r ≡ bitopOf BitOp.Bchg size number value flags ⌝ }
 {
     let k = number % 32;
-    let result = value ^ weight(k);
-    let answer = bit_answer(k, value, result, flags, upper_figure(k));
+    let w = weight(k);
+    let result = value ^ w;
+    let answer = bit_answer(w, value, result, flags, upper_figure(k));
     only_long(size, flags, answer)
 }

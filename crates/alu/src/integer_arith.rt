@@ -5,19 +5,25 @@
 // source of ADDQ and SUBQ on one; EXT word keeps the upper 16 bits; CMP, CMPA and CHK hand the
 // destination back as it came.
 ghost use mathlib.Core.Path.{_≡_};
-ghost use Prim.Native.Nat.{_-_, _^_, _≤_};
-ghost use Rattle.alu.specs.Bits.{bitsOf, top, raised, extended};
-ghost use Rattle.alu.specs.ConditionCodes.{arithFlags, addFlags, subFlags, logicFlags, keepZ, keepX};
-ghost use Rattle.alu.specs.Answers.{refigured, unlessByte, chkFigure, onlyWord};
+ghost use Prim.Native.Nat.{ℕ, _-_, _^_, _<_, _≤_};
+ghost use mathlib.Core.Bool.{false};
+ghost use lib.Dec.{eqb};
+ghost use Rattle.alu.specs.declared.types.Size.{Size};
+ghost use Rattle.alu.specs.declared.types.Check.{Check};
+ghost use Rattle.alu.specs.Bits.{bitsOf, top, raised, extended, widthOf};
+ghost use Rattle.alu.specs.ConditionCodes.{logicFlags, keepZ, keepX};
+ghost use Rattle.alu.specs.Answers.{refigured, unlessByte, chkFigure, classOf, onlyWord};
 ghost use Rattle.alu.specs.Arith.{sum, difference, addressSource, extResult, checkOf};
 ghost use Rattle.alu.specs.Arith.{addOf, addaOf, addqOf, addqAddressOf, addxOf, subOf, subaOf, subqOf, subqAddressOf, subxOf};
 ghost use Rattle.alu.specs.Arith.{cmpOf, cmpaOf, clrOf, negOf, negxOf, notOf, extOf, chkOf};
+ghost use Rattle.alu.specs.Places.{summed, added, subtracted};
 use super::types::Answer;
 use super::types::Check;
 use super::types::Checked;
 use super::types::Flags;
 use super::types::Size;
 use super::types::Verdict;
+use super::types::Width;
 use super::types::accepted;
 use super::types::digit;
 use super::types::figure;
@@ -25,30 +31,74 @@ use super::types::masked;
 use super::types::refused;
 use super::types::result_flags;
 use super::types::top;
+use super::types::width_flags;
+use super::types::width_of;
 
-// dst + src + x in the size's bits. 64 bits hold the whole sum; it is masked once, at the end.
-fn add(size: Size, src: u32, dst: u32, x: bool) -> u32
-    ensures { λ r. ⌜ r ≡ sum (bitsOf size) src dst x ⌝ }
-{
-    let whole = dst as u64 + src as u64 + digit(x) as u64;
-    masked(size, whole)
+// A result and its flags.
+struct Sum {
+    result: u32,
+    flags: Flags,
 }
 
-// dst - src - x in the size's bits. 2^32, a multiple of every size's modulus, keeps it from going below 0.
-fn subtract(size: Size, src: u32, dst: u32, x: bool) -> u32
-    ensures { λ r. ⌜ r ≡ difference (bitsOf size) src dst x ⌝ }
+// The flags of a sum or a difference: V is the top bit of `overflow`, X = C.
+fn sum_of(w: Width, result: u32, overflow: u32, c: bool) -> Sum
+    ensures { λ r. ⌜ ((n : ℕ) → w ≡ widthOf n → result < 2 ^ n → r ≡ summed n result (top n overflow) c) ⌝ }
 {
-    let whole = 0x1_0000_0000 + dst as u64 - (src as u64 + digit(x) as u64);
-    masked(size, whole)
+    let v = overflow & w.top != 0;
+    Sum {
+        result: result,
+        flags: width_flags(w, result, c, v, c),
+    }
 }
 
-// N and Z of the result, V and C from the top bits of two words, and X = C.
-fn arith_flags(size: Size, result: u32, overflow: u32, carry: u32) -> Flags
-    ensures { λ r. ⌜ r ≡ arithFlags (bitsOf size) result (top (bitsOf size) overflow) (top (bitsOf size) carry) ⌝ }
+// dst + src + x in the size's bits. V: both operands have the one sign and the result the other. C: the whole sum has
+// more bits.
+fn add(size: Size, src: u32, dst: u32, x: bool) -> Sum
+    ensures { λ r. ⌜ r ≡ added (bitsOf size) src dst x ⌝ }
 {
-    let v = top(size, overflow);
-    let c = top(size, carry);
-    result_flags(size, result, c, v, c)
+    let w = width_of(size);
+    let mask = w.mask;
+    let s = src & mask;
+    let d = dst & mask;
+    let whole = d as u64 + s as u64 + digit(x) as u64;
+    let long = (whole % 0x1_0000_0000) as u32;
+    let result = long & mask;
+    let overflow = (s ^ result) & (d ^ result);
+    let carry = (mask as u64) < whole;
+    sum_of(w, result, overflow, carry)
+}
+
+// dst - src - x in the size's bits; 2^32 keeps it from going below 0. It is the addition src + result = dst, so V is as
+// above with result and dst exchanged. C: a borrow.
+fn subtract(size: Size, src: u32, dst: u32, x: bool) -> Sum
+    ensures { λ r. ⌜ r ≡ subtracted (bitsOf size) src dst x ⌝ }
+{
+    let w = width_of(size);
+    let mask = w.mask;
+    let s = src & mask;
+    let d = dst & mask;
+    let less = s as u64 + digit(x) as u64;
+    let whole = 0x1_0000_0000 + d as u64 - less;
+    let long = (whole % 0x1_0000_0000) as u32;
+    let result = long & mask;
+    let overflow = (s ^ d) & (result ^ d);
+    let borrow = (d as u64) < less;
+    sum_of(w, result, overflow, borrow)
+}
+
+// x + y and x - y in 32 bits.
+fn plus(x: u32, y: u32) -> u32
+    ensures { λ r. ⌜ r ≡ sum 32 y x false ⌝ }
+{
+    let whole = x as u64 + y as u64;
+    (whole % 0x1_0000_0000) as u32
+}
+
+fn minus(x: u32, y: u32) -> u32
+    ensures { λ r. ⌜ r ≡ difference 32 y x false ⌝ }
+{
+    let whole = 0x1_0000_0000 + x as u64 - y as u64;
+    (whole % 0x1_0000_0000) as u32
 }
 
 // The X forms clear Z for a nonzero result and otherwise keep it.
@@ -59,6 +109,19 @@ fn keep_z(old: Flags, new: Flags) -> Flags
         x: new.x,
         n: new.n,
         z: old.z & new.z,
+        v: new.v,
+        c: new.c,
+    }
+}
+
+// CMP keeps X.
+fn keep_x(old: Flags, new: Flags) -> Flags
+    ensures { λ r. ⌜ r ≡ keepX old new ⌝ }
+{
+    Flags {
+        x: old.x,
+        n: new.n,
+        z: new.z,
         v: new.v,
         c: new.c,
     }
@@ -134,9 +197,9 @@ fn refigured(answer: Answer, clocks: u32) -> Answer
 pub fn exec_add(size: Size, src: u32, dst: u32, flags: Flags) -> Answer
     ensures { λ r. ⌜ r ≡ addOf size src dst flags ⌝ }
 {
-    let result = add(size, src, dst, false);
-    let new = set_add_flags(size, src, dst, result);
-    accepted(result, new, 4)
+    let sum = add(size, src, dst, false);
+    let new = sum.flags;
+    accepted(sum.result, new, 4)
 }
 
 // ADDA <ea>,An. No flag is touched.
@@ -144,7 +207,7 @@ pub fn exec_adda(size: Size, src: u32, dst: u32, flags: Flags) -> Answer
     ensures { λ r. ⌜ r ≡ addaOf size src dst flags ⌝ }
 {
     let source = address_source(size, src);
-    let result = add(Size::Long, source, dst, false);
+    let result = plus(dst, source);
     unless_byte(size, flags, accepted(result, flags, 8))
 }
 
@@ -161,7 +224,7 @@ pub fn exec_addq(size: Size, src: u32, dst: u32, flags: Flags) -> Answer
 pub fn exec_addq_address(size: Size, src: u32, dst: u32, flags: Flags) -> Answer
     ensures { λ r. ⌜ r ≡ addqAddressOf size src dst flags ⌝ }
 {
-    let result = add(Size::Long, src, dst, false);
+    let result = plus(dst, src);
     unless_byte(size, flags, accepted(result, flags, 8))
 }
 
@@ -169,18 +232,18 @@ pub fn exec_addq_address(size: Size, src: u32, dst: u32, flags: Flags) -> Answer
 pub fn exec_addx(size: Size, src: u32, dst: u32, flags: Flags) -> Answer
     ensures { λ r. ⌜ r ≡ addxOf size src dst flags ⌝ }
 {
-    let result = add(size, src, dst, flags.x);
-    let new = keep_z(flags, set_add_flags(size, src, dst, result));
-    accepted(result, new, 4)
+    let sum = add(size, src, dst, flags.x);
+    let new = keep_z(flags, sum.flags);
+    accepted(sum.result, new, 4)
 }
 
 // SUB <ea>,Dn
 pub fn exec_sub(size: Size, src: u32, dst: u32, flags: Flags) -> Answer
     ensures { λ r. ⌜ r ≡ subOf size src dst flags ⌝ }
 {
-    let result = subtract(size, src, dst, false);
-    let new = set_sub_flags(size, src, dst, result);
-    accepted(result, new, 4)
+    let sum = subtract(size, src, dst, false);
+    let new = sum.flags;
+    accepted(sum.result, new, 4)
 }
 
 // SUBA <ea>,An
@@ -188,7 +251,7 @@ pub fn exec_suba(size: Size, src: u32, dst: u32, flags: Flags) -> Answer
     ensures { λ r. ⌜ r ≡ subaOf size src dst flags ⌝ }
 {
     let source = address_source(size, src);
-    let result = subtract(Size::Long, source, dst, false);
+    let result = minus(dst, source);
     unless_byte(size, flags, accepted(result, flags, 8))
 }
 
@@ -204,7 +267,7 @@ pub fn exec_subq(size: Size, src: u32, dst: u32, flags: Flags) -> Answer
 pub fn exec_subq_address(size: Size, src: u32, dst: u32, flags: Flags) -> Answer
     ensures { λ r. ⌜ r ≡ subqAddressOf size src dst flags ⌝ }
 {
-    let result = subtract(Size::Long, src, dst, false);
+    let result = minus(dst, src);
     unless_byte(size, flags, accepted(result, flags, 8))
 }
 
@@ -212,17 +275,17 @@ pub fn exec_subq_address(size: Size, src: u32, dst: u32, flags: Flags) -> Answer
 pub fn exec_subx(size: Size, src: u32, dst: u32, flags: Flags) -> Answer
     ensures { λ r. ⌜ r ≡ subxOf size src dst flags ⌝ }
 {
-    let result = subtract(size, src, dst, flags.x);
-    let new = keep_z(flags, set_sub_flags(size, src, dst, result));
-    accepted(result, new, 4)
+    let sum = subtract(size, src, dst, flags.x);
+    let new = keep_z(flags, sum.flags);
+    accepted(sum.result, new, 4)
 }
 
 // CMP <ea>,Dn. The destination comes back as it was handed in.
 pub fn exec_cmp(size: Size, src: u32, dst: u32, flags: Flags) -> Answer
     ensures { λ r. ⌜ r ≡ cmpOf size src dst flags ⌝ }
 {
-    let result = subtract(size, src, dst, false);
-    let new = set_cmp_flags(size, src, dst, result, flags);
+    let sum = subtract(size, src, dst, false);
+    let new = keep_x(flags, sum.flags);
     accepted(dst, new, 4)
 }
 
@@ -247,18 +310,18 @@ pub fn exec_clr(size: Size, flags: Flags) -> Answer
 pub fn exec_neg(size: Size, dst: u32, flags: Flags) -> Answer
     ensures { λ r. ⌜ r ≡ negOf size dst flags ⌝ }
 {
-    let result = subtract(size, dst, 0, false);
-    let new = set_sub_flags(size, dst, 0, result);
-    accepted(result, new, figure(size, 4, 6))
+    let sum = subtract(size, dst, 0, false);
+    let new = sum.flags;
+    accepted(sum.result, new, figure(size, 4, 6))
 }
 
 // NEGX Dn: 0 - dst - X.
 pub fn exec_negx(size: Size, dst: u32, flags: Flags) -> Answer
     ensures { λ r. ⌜ r ≡ negxOf size dst flags ⌝ }
 {
-    let result = subtract(size, dst, 0, flags.x);
-    let new = keep_z(flags, set_sub_flags(size, dst, 0, result));
-    accepted(result, new, figure(size, 4, 6))
+    let sum = subtract(size, dst, 0, flags.x);
+    let new = keep_z(flags, sum.flags);
+    accepted(sum.result, new, figure(size, 4, 6))
 }
 
 // NOT Dn
@@ -290,45 +353,35 @@ pub fn exec_ext(size: Size, dst: u32, flags: Flags) -> Answer
     unless_byte(size, flags, accepted(result, new, 4))
 }
 
-// The flags after `result` = `dst` + `src`, with or without X. V: both operands have the one sign and
-// the result the other. C: both top bits are set, or one is and the result's is not.
-fn set_add_flags(size: Size, src: u32, dst: u32, result: u32) -> Flags
-    ensures { λ r. ⌜ r ≡ addFlags (bitsOf size) src dst result ⌝ }
-{
-    let overflow = (src ^ result) & (dst ^ result);
-    let carry = src & dst | !result & (src | dst);
-    arith_flags(size, result, overflow, carry)
-}
-
-// The flags after `result` = `dst` - `src`, with or without X. It is the addition `src` + `result` =
-// `dst`, so V and C are as above with `result` and `dst` exchanged.
-fn set_sub_flags(size: Size, src: u32, dst: u32, result: u32) -> Flags
-    ensures { λ r. ⌜ r ≡ subFlags (bitsOf size) src dst result ⌝ }
-{
-    let overflow = (src ^ dst) & (result ^ dst);
-    let borrow = src & result | !dst & (src | result);
-    arith_flags(size, result, overflow, borrow)
-}
-
-// The same for CMP, which keeps X.
-fn set_cmp_flags(size: Size, src: u32, dst: u32, result: u32, flags: Flags) -> Flags
-    ensures { λ r. ⌜ r ≡ keepX flags (subFlags (bitsOf size) src dst result) ⌝ }
-{
-    let new = set_sub_flags(size, src, dst, result);
-    Flags {
-        x: flags.x,
-        n: new.n,
-        z: new.z,
-        v: new.v,
-        c: new.c,
-    }
-}
-
 // N and Z of the result; V and C are cleared, X is kept. (m68k has it in data_movement.rs.)
 pub fn set_logic_flags(size: Size, result: u32, flags: Flags) -> Flags
     ensures { λ r. ⌜ r ≡ logicFlags (bitsOf size) result flags ⌝ }
 {
     result_flags(size, result, flags.x, false, false)
+}
+
+// Whether the word in Dn is not below 0 and not above the bound. Below 8000 hex a word is its own signed number; a value
+// that is not above such a bound is one too.
+fn chk_passes(bound: u32, value: u32) -> bool
+    ensures { λ r. ⌜ r ≡ eqb (classOf (checkOf 16 bound value)) 0 ⌝ }
+{
+    let b = bound % 0x1_0000;
+    let v = value % 0x1_0000;
+    (v <= b) & (b < 0x8000)
+}
+
+// What CHK answers then.
+fn chk_passed(value: u32, flags: Flags) -> Answer
+    ensures { λ r. ⌜ ((bound : ℕ) → checkOf 16 bound value ≡ Check.Pass → r ≡ chkOf Size.Word bound value flags .answer) ⌝ }
+{
+    let new = Flags {
+        x: flags.x,
+        n: false,
+        z: false,
+        v: false,
+        c: false,
+    };
+    accepted(value, new, 10)
 }
 
 // CHK's class. b and v are raised by 8000 hex, so that signed numbers compare as unsigned ones: below 0
@@ -381,10 +434,9 @@ fn only_word(size: Size, flags: Flags, checked: Checked) -> Checked
     }
 }
 
-// CHK <ea>,Dn: whether the word in Dn is below 0 or above the bound. N is the value's sign; the value comes
-// back as it was handed in.
-pub fn exec_chk(size: Size, bound: u32, value: u32, flags: Flags) -> Checked
-    ensures { λ r. ⌜ r ≡ chkOf size bound value flags ⌝ }
+// What CHK of words answers, whatever its class; asked where it doesn't pass. N is the value's sign.
+fn chk_trap(bound: u32, value: u32, flags: Flags) -> Checked
+    ensures { λ r. ⌜ r ≡ chkOf Size.Word bound value flags ⌝ }
 {
     let class = check(bound, value);
     let new = Flags {
@@ -394,9 +446,24 @@ pub fn exec_chk(size: Size, bound: u32, value: u32, flags: Flags) -> Checked
         v: false,
         c: false,
     };
-    let checked = Checked {
+    Checked {
         check: class,
         answer: accepted(value, new, chk_figure(class)),
+    }
+}
+
+// CHK <ea>,Dn: whether the word in Dn is below 0 or above the bound. N is the value's sign; the value comes
+// back as it was handed in.
+pub fn exec_chk(size: Size, bound: u32, value: u32, flags: Flags) -> Checked
+    ensures { λ r. ⌜ r ≡ chkOf size bound value flags ⌝ }
+{
+    let checked = if chk_passes(bound, value) {
+        Checked {
+            check: Check::Pass,
+            answer: chk_passed(value, flags),
+        }
+    } else {
+        chk_trap(bound, value, flags)
     };
     only_word(size, flags, checked)
 }

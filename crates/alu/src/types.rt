@@ -1,8 +1,8 @@
 // Sizes, flags, verdicts and answers, and the helpers that more than one module takes. In a contract `top`, `digit`,
 // `accepted`, `refused` and `figure` are the definitions of specs/, not the functions here.
 ghost use mathlib.Core.Path.{_≡_};
-ghost use Prim.Native.Nat.{_*_, _≤_};
-ghost use Rattle.alu.specs.Bits.{bitsOf, low, top, digit};
+ghost use Prim.Native.Nat.{ℕ, _*_, _^_, _<_, _≤_};
+ghost use Rattle.alu.specs.Bits.{bitsOf, low, top, digit, widthOf};
 ghost use Rattle.alu.specs.ConditionCodes.{resultFlags, flagsOf, ccrOf};
 ghost use Rattle.alu.specs.Answers.{numberOf, classOf, accepted, refused, figure};
 
@@ -75,26 +75,60 @@ pub fn class(check: Check) -> u32
     }
 }
 
+// A size in numbers: all its bits, and the highest.
+pub struct Width {
+    pub mask: u32,
+    pub top: u32,
+}
+
+// The numbers of a size.
+pub fn width_of(size: Size) -> Width
+    ensures { λ r. ⌜ r ≡ widthOf (bitsOf size) ⌝ }
+{
+    match size {
+        Size::Byte => Width {
+            mask: 0xff,
+            top: 0x80,
+        },
+        Size::Word => Width {
+            mask: 0xffff,
+            top: 0x8000,
+        },
+        Size::Long => Width {
+            mask: 0xffff_ffff,
+            top: 0x8000_0000,
+        },
+    }
+}
+
+// N and Z of a result that has no bits above the width; X, V and C as given.
+pub(crate) fn width_flags(w: Width, result: u32, x: bool, v: bool, c: bool) -> Flags
+    ensures { λ r. ⌜ ((n : ℕ) → w ≡ widthOf n → result < 2 ^ n → r ≡ resultFlags n result x v c) ⌝ }
+{
+    Flags {
+        x: x,
+        n: result & w.top != 0,
+        z: result == 0,
+        v: v,
+        c: c,
+    }
+}
+
 // The low bits of a value, as many as the size has.
 pub fn masked(size: Size, x: u64) -> u32
     ensures { λ r. ⌜ r ≡ low (bitsOf size) x ⌝ }
 {
-    match size {
-        Size::Byte => (x % 0x100) as u32,
-        Size::Word => (x % 0x1_0000) as u32,
-        Size::Long => (x % 0x1_0000_0000) as u32,
-    }
+    let w = width_of(size);
+    let long = (x % 0x1_0000_0000) as u32;
+    long & w.mask
 }
 
 // The highest bit that the size has.
 pub fn top(size: Size, x: u32) -> bool
     ensures { λ r. ⌜ r ≡ top (bitsOf size) x ⌝ }
 {
-    match size {
-        Size::Byte => x / 0x80 % 2 == 1,
-        Size::Word => x / 0x8000 % 2 == 1,
-        Size::Long => x / 0x8000_0000 % 2 == 1,
-    }
+    let w = width_of(size);
+    x & w.top != 0
 }
 
 // A flag as a number.
@@ -108,13 +142,9 @@ pub fn digit(flag: bool) -> u32
 pub fn result_flags(size: Size, result: u32, x: bool, v: bool, c: bool) -> Flags
     ensures { λ r. ⌜ r ≡ resultFlags (bitsOf size) result x v c ⌝ }
 {
-    Flags {
-        x: x,
-        n: top(size, result),
-        z: masked(size, result as u64) == 0,
-        v: v,
-        c: c,
-    }
+    let w = width_of(size);
+    let cut = result & w.mask;
+    width_flags(w, cut, x, v, c)
 }
 
 // The flags of a packed byte, as the 68000 packs them; its bits above X don't count.

@@ -24,10 +24,12 @@ use denote.Triple.Clauses.{Ended, Lasts, AtExit, atExit}
 use Rattle.alu.proofs.Determined.{Fixed, fixed, one-equation}
 use Rattle.step.specs.declared.forms.Step.{Step}
 use Rattle.step.specs.declared.steps.Performed.{Performed}
+use Rattle.step.specs.declared.runs.Ran.{Ran}
+use Rattle.step.specs.declared.runs.Left.{Left}
 use Rattle.step.specs.declared.lent.Told.{Told}
 use Rattle.step.specs.Perform.{performOf}
 use Rattle.step.specs.Run.{runOf}
-use Rattle.step.specs.Lent.{performed}
+use Rattle.step.specs.Lent.{performed, held, ranIn}
 use Rattle.step.specs.Rack.{Rack, left, rackOf}
 use Rattle.step.proofs.forms.operation_of.Reads as operation-of
 use Rattle.step.proofs.forms.operation_at.Reads as operation-at
@@ -43,6 +45,7 @@ use Rattle.step.proofs.racks.number.Reads as fit-number
 use Rattle.step.proofs.racks.plan.Reads as plan
 use Rattle.step.proofs.racks.rack as rack
 use Rattle.step.proofs.lent.perform_in as perform-in
+use Rattle.step.proofs.lent.run_in as run-in
 use Rattle.step.proofs.lent.run as run
 use Rattle.step.proofs.lent.fetch as fetch
 use Rattle.step.proofs.lent.store as store
@@ -78,6 +81,9 @@ module _ {M : Type 1} (𝓤 : URA M) (T : Ended) (κs : Lfts (T .signature .life
 abbrev toldIn : Performed → Told
 toldIn p = record { outcome = p .outcome; clocks = p .clocks }
 
+abbrev leftBy : Ran → Left
+leftBy r = record { end = r .end; next = r .next; steps = r .steps; clocks = r .clocks; flags = r .state .flags }
+
 module _ {M : Type 1} (𝓤 : URA M) (H : Heap 𝓤) (A : Atoms 𝓤) (mem : Memory → SProp 𝓤) (go : Routine → Fun 𝓤) (κs : Lfts 1) where
   pub perform-in-determined : (a : Args perform-in.signature κs) → OneExit 𝓤 perform-in.ended κs a (λ r ws. performed r (ws .0)) (perform-in.clauses 𝓤 H A mem go κs a .ensures tt)
   perform-in-determined a = record {
@@ -97,6 +103,14 @@ module _ {M : Type 1} (𝓤 : URA M) (H : Heap 𝓤) (A : Atoms 𝓤) (mem : Mem
     of = set (now (a .0)) (a .1 .0) (a .1 .1 .0);
     is = λ r ws. refl;
     all = λ r r′ ws ws′ e. (refl, ap (λ (l : List Step). (l, (tt, (tt, tt)))) e);
+  }
+
+module _ {M : Type 1} (𝓤 : URA M) (H : Heap 𝓤) (A : Atoms 𝓤) (mem : Memory → SProp 𝓤) (go : Routine → Fun 𝓤) (κs : Lfts 3) where
+  pub run-in-determined : (a : Args run-in.signature κs) → OneExit 𝓤 run-in.ended κs a (λ r ws. ranIn r (ws .1 .0) (ws .1 .1 .0)) (run-in.clauses 𝓤 H A mem go κs a .ensures tt)
+  run-in-determined a = record {
+    of = runOf performOf (now (a .0)) (held (now (a .1 .0)) (now (a .1 .1 .0)) (a .1 .1 .1 .0)) (a .1 .1 .1 .1 .0) (a .1 .1 .1 .1 .1 .0);
+    is = λ r ws. refl;
+    all = λ r r′ ws ws′ e. (ap leftBy e, ap (λ (r : Ran). (tt, (r .state .d, (r .state .a, (tt, (tt, (tt, tt))))))) e);
   }
 
 module _ {M : Type 1} (𝓤 : URA M) (H : Heap 𝓤) (A : Atoms 𝓤) (mem : Memory → SProp 𝓤) (go : Routine → Fun 𝓤) (κs : Lfts 4) where

@@ -17,11 +17,9 @@ use Rattle.step.specs.declared.forms.Step.{Step}
 use Rattle.step.specs.declared.steps.Outcome.{Outcome}
 use Rattle.step.specs.declared.steps.Outcome.the-variants.{Done, Trapped, Refused}
 use Rattle.step.specs.declared.steps.Performed.{Performed}
-use Rattle.step.specs.declared.steps.Ruling.{Ruling}
-use Rattle.step.specs.declared.steps.Ruling.the-variants.{Sound, Faulty}
 use Rattle.step.specs.declared.runs.Ran.{Ran}
 use Rattle.step.specs.Registers.{dataOf, addressOf, mergedOf}
-use Rattle.step.specs.Perform.{twoOf, onAddressOf, quickOf, quickAddressOf, oneOf, registerValue, countValue, toData, toAddress, actOf, judged, rulingOf, performOf}
+use Rattle.step.specs.Perform.{Ruling, Sound, Faulty, twoOf, onAddressOf, quickOf, quickAddressOf, oneOf, registerValue, countValue, toData, toAddress, actOf, judged, rulingOf, performOf}
 use Rattle.step.specs.Run.{Spot, here, atEnd, pastEnd, spotOf, followed, met, runOf}
 
 -- as many registers of each kind

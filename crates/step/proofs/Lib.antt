@@ -12,3 +12,5 @@ mod Stepping
 pub mod Numbers
 pub mod Determined
 pub mod Walks
+pub mod Lending
+pub mod OneCall

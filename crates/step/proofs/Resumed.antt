@@ -30,11 +30,9 @@ use Rattle.step.specs.declared.forms.Step.{Step}
 use Rattle.step.specs.declared.steps.Outcome.{Outcome}
 use Rattle.step.specs.declared.steps.Outcome.the-variants.{Done, Trapped, Refused}
 use Rattle.step.specs.declared.steps.Performed.{Performed}
-use Rattle.step.specs.declared.steps.Ruling.{Ruling}
-use Rattle.step.specs.declared.steps.Ruling.the-variants.{Sound, Faulty}
 use Rattle.step.specs.declared.runs.End.the-variants as End
 use Rattle.step.specs.declared.runs.Ran.{Ran}
-use Rattle.step.specs.Perform.{twoOf, onAddressOf, quickOf, quickAddressOf, oneOf, rulingOf, actOf, judged, performOf}
+use Rattle.step.specs.Perform.{Ruling, Sound, Faulty, twoOf, onAddressOf, quickOf, quickAddressOf, oneOf, rulingOf, actOf, judged, performOf}
 use Rattle.step.specs.Run.{Spot, here, atEnd, pastEnd, spotOf, ends, after, followed, met, runOf, wrapped, resumedOf}
 use Rattle.step.specs.Parts.{goesOn}
 use Rattle.step.proofs.Laws.{after-none, run-few, run-split}

@@ -1,14 +1,16 @@
 -- What the ruling of a step means. A step that is sound is never refused by its operation (`never-refused`), so that no refused answer is ever taken
 -- for a result. A step is refused with document 01's number 3, 2 or 1, in that order, exactly where a test fails (`perform-number`). It traps with the
 -- class of the crate alu exactly where it is a sound CHK that doesn't pass (`perform-class`). A refused step changes nothing
--- (`perform-kept`). A write at a size, over the size's bits (`merged-bits`). Assumes nothing.
-use mathlib.Core.Path.{_≡_, refl, ap, _∙_}
+-- (`perform-kept`) and has the figure 0 (`refused-free`), and none is refused as a run is that starts past the end (`never-past`). A write at a size, over the size's bits (`merged-bits`) and by its mask (`merged-mask`). Assumes nothing.
+use mathlib.Core.Path.{_≡_, refl, sym, ap, ap₂, _∙_}
 use mathlib.Core.Bool.{Bool, true, false, cond, _&&_}
-use Prim.Native.Nat.{ℕ, _≤_, _/_, _%_, _<_, _^_}
+use Prim.Native.Nat.{ℕ, _+_, _-_, _*_, _≤_, _/_, _%_, _<_, _^_}
 use native.Mathlib.Nat.{mod-lt}
 use native.Mathlib.Omega.{arith}
 use borrow.Author.Tests.{le-ltb, leb-true}
 use lib.Dec.{leb}
+use lib.Pow.{pow-pos}
+use lib.Bits.{bitAnd, bitOr, and-mask, and-high, or-shifted}
 use Rattle.alu.specs.declared.types.Size.{Size}
 use Rattle.alu.specs.declared.types.Size.the-variants.{Byte, Word, Long}
 use Rattle.alu.specs.declared.types.Flags.{Flags}
@@ -19,7 +21,7 @@ use Rattle.alu.specs.declared.types.Check.the-variants.{Pass, Over, Short, Belo
 use Rattle.alu.specs.declared.shift_rotate.ShiftOp.{ShiftOp}
 use Rattle.alu.specs.declared.shift_rotate.ShiftOp.the-variants.{Asl, Asr, Lsl, Lsr, Rol, Ror, Roxl, Roxr}
 use Rattle.alu.specs.declared.bit_manip.BitOp.{BitOp}
-use Rattle.alu.specs.Bits.{bitsOf, low, join}
+use Rattle.alu.specs.Bits.{bitsOf, low, join, widthOf}
 use Rattle.alu.specs.Answers.{classOf as checkClass}
 use Rattle.alu.specs.Arith.{chkOf}
 use Rattle.alu.specs.Shifts.{shiftOf}
@@ -38,11 +40,13 @@ use Rattle.step.specs.declared.forms.Count.{Count}
 use Rattle.step.specs.declared.forms.Count.the-variants as Count
 use Rattle.step.specs.declared.forms.Form.{Form}
 use Rattle.step.specs.declared.forms.Form.the-variants.{Two, Address, Quick, One, Shift, Bit, Chk}
-use Rattle.step.specs.declared.steps.Ruling.{Ruling}
-use Rattle.step.specs.declared.steps.Ruling.the-variants.{Sound, Faulty}
+use Rattle.step.specs.declared.forms.Step.{Step}
+use Rattle.step.specs.declared.steps.Fault.{Fault}
+use Rattle.step.specs.declared.steps.Fault.the-variants.{BadSmall, NoSuchSize, NoSuchRegister, StartPastEnd}
+use Rattle.step.specs.declared.steps.Outcome.the-variants.{Refused}
 use Rattle.step.specs.Registers.{dataOf, addressOf, mergedOf}
-use Rattle.step.specs.Perform.{numberOf, refusalOf, there, registerThere, countThere, within, countWithin, notByte, isWord, isLong, quickSize, oneSize, rulingOf}
-use Rattle.step.specs.Perform.{twoOf, onAddressOf, quickOf, quickAddressOf, oneOf, registerValue, countValue, outcomeOf, actOf, judged, performForm, refusedWith, trappedWith}
+use Rattle.step.specs.Perform.{Ruling, Sound, Faulty, numberOf, refusalOf, there, registerThere, countThere, within, countWithin, notByte, isWord, isLong, quickSize, oneSize, rulingOf}
+use Rattle.step.specs.Perform.{twoOf, onAddressOf, quickOf, quickAddressOf, oneOf, registerValue, countValue, outcomeOf, actOf, judged, performForm, performOf, refusedWith, trappedWith}
 use Rattle.step.proofs.Laws.{no}
 
 -- ---- the number of a ruling
@@ -172,6 +176,29 @@ pub perform-kept : (s : State) (size : Size) (form : Form) → (refusedWith (per
     → (performForm s size form .state ≡ s) × (performForm s size form .clocks ≡ 0)
 perform-kept s size form = judged-kept (rulingOf size form) s size form
 
+-- no refusal has the number 0
+numbered : (x : Fault) → numberOf x ≡ 0 → ⊥
+numbered BadSmall e = omega (arith, e)
+numbered NoSuchSize e = omega (arith, e)
+numbered NoSuchRegister e = omega (arith, e)
+numbered StartPastEnd e = omega (arith, e)
+
+pub refused-free : (s : State) (k : Step) (x : Fault) → performOf s k .outcome ≡ Refused x → performOf s k .clocks ≡ 0
+refused-free s k x e = perform-kept s (k .size) (k .form) (λ none. numbered x (sym (ap refusedWith e) ∙ none)) .1
+
+-- a step is refused with 3, 2 or 1: never with 10, which is a run's
+three-tests : (a b c : Bool) → cond a (cond b (cond c 0 1) 2) 3 ≤ 3
+three-tests false b c = omega arith
+three-tests true false c = omega arith
+three-tests true true false = omega arith
+three-tests true true true = omega arith
+
+pub never-past : (s : State) (k : Step) → performOf s k .outcome ≡ Refused StartPastEnd → ⊥
+never-past s k e =
+    let tests = three-tests (registersOf (k .form)) (sizeOf (k .size) (k .form)) (smallOf (k .form)) in
+    let ten : _≡_ {A = ℕ} 10 (cond (registersOf (k .form)) (cond (sizeOf (k .size) (k .form)) (cond (smallOf (k .form)) 0 1) 2) 3) = sym (ap refusedWith e) ∙ perform-number s (k .size) (k .form) in
+    omega (arith, tests, ten)
+
 -- ---- a sound step's operation is not refused
 
 -- the answer that a step's operation gives
@@ -286,3 +313,13 @@ pub merged-bits : (size : Size) (old value : ℕ) → old < 2 ^ 32 → value < 2
 merged-bits Byte old value h l = refl
 merged-bits Word old value h l = refl
 merged-bits Long old value h l = omega arith
+
+-- `old` without its low n bits, and the low n bits of `value`
+high-low : (j n old value : ℕ) → bitOr (bitAnd old (2 ^ (j + n) - 2 ^ n)) (bitAnd value (2 ^ n - 1)) ≡ old / 2 ^ n % 2 ^ j * 2 ^ n + value % 2 ^ n
+high-low j n old value = ap₂ bitOr (and-high old j n) (and-mask value n) ∙ or-shifted (old / 2 ^ n % 2 ^ j) n (value % 2 ^ n) (mod-lt value (pow-pos n))
+
+-- so a write at a size is done by the size's mask
+pub merged-mask : (size : Size) (old value : ℕ) → old < 2 ^ 32 → value < 2 ^ 32 → let mask = widthOf (bitsOf size) .mask in bitOr (bitAnd old (2 ^ 32 - 1 - mask)) (bitAnd value mask) ≡ mergedOf size old value
+merged-mask Byte old value h l = high-low 24 8 old value ∙ omega arith
+merged-mask Word old value h l = high-low 16 16 old value ∙ omega arith
+merged-mask Long old value h l = high-low 0 32 old value ∙ omega arith

@@ -34,8 +34,6 @@ use Rattle.step.specs.declared.forms.Form.the-variants.{Two, Address, Qu
 use Rattle.step.specs.declared.forms.Step.{Step}
 use Rattle.step.specs.declared.steps.Fault.{Fault}
 use Rattle.step.specs.declared.steps.Fault.the-variants.{BadSmall, NoSuchSize, NoSuchRegister, StartPastEnd}
-use Rattle.step.specs.declared.steps.Ruling.{Ruling}
-use Rattle.step.specs.declared.steps.Ruling.the-variants.{Sound, Faulty}
 use Rattle.step.specs.declared.steps.Trap.{Trap}
 use Rattle.step.specs.declared.steps.Trap.the-variants.{Over as TrapOver, Short as TrapShort, Below as TrapBelow}
 use Rattle.step.specs.declared.steps.Outcome.{Outcome}
@@ -57,6 +55,10 @@ classOf TrapShort = 2
 classOf TrapBelow = 3
 
 -- ---- may the step be done?
+
+pub data Ruling : Type 0 where
+  Sound : Ruling
+  Faulty : Fault → Ruling
 
 -- the order of the tests: 3, 2, 1. `true` says that a test is passed
 abbrev pub refusalOf : (registers size small : Bool) → Ruling

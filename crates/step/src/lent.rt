@@ -1,17 +1,24 @@
-// The thin functions over what is lent: a register set, and a listing as a row of step records.
+// What works on what is lent: a register set, and a listing as a row of step records. The loop of a run stands here.
 ghost use mathlib.Core.Path.{_≡_};
-ghost use lib.ListN.{getD, set};
+ghost use mathlib.Core.List.{[], _∷_};
+ghost use Prim.Native.Nat.{_≤_};
+ghost use lib.ListN.{getD, set, take};
 ghost use Rattle.step.specs.Perform.{performOf};
-ghost use Rattle.step.specs.Run.{runOf};
-ghost use Rattle.step.specs.Lent.{performed};
+ghost use Rattle.step.specs.Run.{arraySlots, runOf};
+ghost use Rattle.step.specs.Lent.{performed, held, ranIn};
 use super::forms::Step;
 use super::registers::State;
+use super::runs::Left;
 use super::runs::Ran;
+use super::runs::SLOTS;
 use super::runs::advance;
 use super::runs::begin;
-use super::runs::ended;
+use super::runs::left_off;
+use super::runs::ran_of;
+use super::runs::stop_at;
 use super::steps::Outcome;
 use super::steps::perform;
+use alu::types::Flags;
 
 // What one step says beside the state that it leaves.
 pub struct Told {
@@ -31,19 +38,58 @@ pub fn perform_in(state: &mut State, step: Step) -> Told
     }
 }
 
+// A run on registers that are lent, and changed there: the one loop, which every other way of running calls.
+pub fn run_in(
+    listing: &[Step],
+    d: &mut [u32; 8],
+    a: &mut [u32; 8],
+    flags: Flags,
+    start: usize,
+    budget: u32,
+) -> Left
+    ensures { λ r. ⌜ ranIn r (now (d .exit)) (now (a .exit)) ≡ runOf performOf (now (listing .entry)) (held (now (d .entry)) (now (a .entry)) flags) start budget ⌝ }
+{
+    let len = listing.len();
+    let stop = stop_at(len, start, budget);
+    let mut on = begin(len, start, stop, flags);
+    while on.going {
+        on = advance(d, a, stop, on, listing[on.next]);
+    }
+    left_off(len, start, on)
+}
+
 // A run of a listing that is lent, of any length.
 pub fn run(listing: &[Step], state: State, start: usize, budget: u32) -> Ran
     ensures { λ r. ⌜ r ≡ runOf performOf (now (listing .entry)) state start budget ⌝ }
 {
-    let len = listing.len();
     let mut d = state.d;
     let mut a = state.a;
-    let mut on = begin(len, start, budget, state.flags);
-    let first = on.left;
-    while on.going {
-        on = advance(&mut d, &mut a, len, on, listing[on.next]);
-    }
-    ended(d, a, first, on)
+    let left = run_in(listing, &mut d, &mut a, state.flags, start, budget);
+    ran_of(left, d, a)
+}
+
+// A run of the first `len` steps of an array, on registers that are lent.
+pub(crate) fn run_first(
+    listing: [Step; SLOTS],
+    len: usize,
+    d: &mut [u32; 8],
+    a: &mut [u32; 8],
+    flags: Flags,
+    start: usize,
+    budget: u32,
+) -> Left
+    requires { ⌜ len ≤ arraySlots ⌝ }
+    ensures { λ r. ⌜ ranIn r (now (d .exit)) (now (a .exit)) ≡ runOf performOf (take len listing) (held (now (d .entry)) (now (a .entry)) flags) start budget ⌝ }
+{
+    run_in(&listing[..len], d, a, flags, start, budget)
+}
+
+// A run of one step.
+pub(crate) fn run_one(step: Step, d: &mut [u32; 8], a: &mut [u32; 8], flags: Flags) -> Left
+    ensures { λ r. ⌜ ranIn r (now (d .exit)) (now (a .exit)) ≡ runOf performOf (step ∷ []) (held (now (d .entry)) (now (a .entry)) flags) 0 1 ⌝ }
+{
+    let one = [step; 1];
+    run_in(&one, d, a, flags, 0, 1)
 }
 
 // The step at a place of a listing; past the end, `other`.

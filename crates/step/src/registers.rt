@@ -4,6 +4,7 @@ ghost use lib.ListN.{getD, set};
 ghost use Rattle.step.specs.Registers.{mergedOf};
 use alu::types::Flags;
 use alu::types::Size;
+use alu::types::width_of;
 
 // The number of a data register.
 pub struct D(pub u8);
@@ -40,9 +41,7 @@ pub(crate) fn write(registers: &mut [u32], r: u8, value: u32)
 pub(crate) fn merged(size: Size, old: u32, value: u32) -> u32
     ensures { λ r. ⌜ r ≡ mergedOf size old value ⌝ }
 {
-    match size {
-        Size::Byte => old / 0x100 * 0x100 + value % 0x100,
-        Size::Word => old / 0x1_0000 * 0x1_0000 + value % 0x1_0000,
-        Size::Long => value,
-    }
+    let w = width_of(size);
+    let low = w.mask;
+    old & !low | value & low
 }

@@ -1,17 +1,21 @@
 // A run of a listing of steps with a budget.
 ghost use mathlib.Core.Path.{_≡_};
-ghost use mathlib.Core.Bool.{true};
-ghost use Prim.Native.Nat.{_≤_, min};
+ghost use Prim.Native.Nat.{_-_, min};
 ghost use lib.ListN.{take};
 ghost use Rattle.step.specs.Perform.{performOf};
 ghost use Rattle.step.specs.declared.runs.End.the-variants as End;
 ghost use Rattle.step.specs.Run.{ends, runOf, resumedOf};
-ghost use Rattle.step.specs.Course.{held, courseOf, halted, endAt, arriveOf, mostOf, beginOf, Advanced, ranOf, Ready};
+ghost use Rattle.step.specs.Lent.{held, ranIn};
+ghost use Rattle.step.specs.Course.{courseOf, stopOf, beginOf, Advanced, endAt, stoodAt, haltedOf, leftOf, Ready, Halts};
 use super::forms::Step;
+use super::lent::run_first;
 use super::registers::State;
+use super::steps::Came;
 use super::steps::Fault;
 use super::steps::Outcome;
 use super::steps::Trap;
+use super::steps::is_done;
+use super::steps::outcome_of;
 use super::steps::perform_on;
 use alu::types::Flags;
 
@@ -35,26 +39,32 @@ pub struct Ran {
     pub clocks: u64,
 }
 
-// Where a run stands between two steps: whether it goes on, and how it ends if not; the steps that it may still take
-// (what is left of the budget, but no more than stand before the end), the next place, the figures so far, and the
-// flags. The registers are not in it: each step is lent them.
+// What a run on registers that are lent says beside them.
+pub struct Left {
+    pub end: End,
+    pub next: usize,
+    pub steps: u32,
+    pub clocks: u64,
+    pub flags: Flags,
+}
+
+// Where a run stands between two steps: whether it goes on, how the last step came out, the place behind it, the figures
+// so far, and the flags. The registers are not in it: each step is lent them.
 pub(crate) struct Course {
     pub going: bool,
-    pub end: End,
-    pub left: u32,
+    pub came: Came,
     pub next: usize,
     pub clocks: u64,
     pub flags: Flags,
 }
 
 // Where a run stands. The flags go over one by one, as in alu::types::accepted.
-fn stands(going: bool, end: End, left: u32, next: usize, clocks: u64, flags: Flags) -> Course
-    ensures { λ r. ⌜ r ≡ courseOf going end left next clocks flags ⌝ }
+fn stands(going: bool, came: Came, next: usize, clocks: u64, flags: Flags) -> Course
+    ensures { λ r. ⌜ r ≡ courseOf going came next clocks flags ⌝ }
 {
     Course {
         going,
-        end,
-        left,
+        came,
         next,
         clocks,
         flags: Flags {
@@ -67,7 +77,74 @@ fn stands(going: bool, end: End, left: u32, next: usize, clocks: u64, flags: Fla
     }
 }
 
-// How a run ends that takes no step more at a place of a listing of `len` steps, or at its end.
+// The place that a run does not go beyond: the end of the listing, or where its budget is spent.
+pub(crate) fn stop_at(len: usize, start: usize, budget: u32) -> usize
+    ensures { λ r. ⌜ r ≡ stopOf len start budget ⌝ }
+{
+    if start < len {
+        let rest = len - start;
+        if rest < budget as usize {
+            len
+        } else {
+            start + budget as usize
+        }
+    } else {
+        start
+    }
+}
+
+// Where a run starts.
+pub(crate) fn begin(len: usize, start: usize, stop: usize, flags: Flags) -> Course
+    ensures { λ r. ⌜ r ≡ beginOf len start stop flags ⌝ }
+{
+    if start <= len {
+        stands(start < stop, Came::Done, start, 0, flags)
+    } else {
+        stands(false, Came::StartPastEnd, start, 0, flags)
+    }
+}
+
+// One step of a run that goes on. The next place is worked out before the step is taken, and is the same whatever comes of
+// it, so that the compiler has one place to keep.
+pub(crate) fn advance(
+    d: &mut [u32; 8],
+    a: &mut [u32; 8],
+    stop: usize,
+    on: Course,
+    step: Step,
+) -> Course
+    requires { ⌜ Ready stop on ⌝ }
+    ensures { λ r. ⌜ Advanced stop on (performOf (held (now (d .entry)) (now (a .entry)) (on .flags)) step) (now (d .exit)) (now (a .exit)) r ⌝ }
+{
+    let before = on.flags;
+    let size = step.size;
+    let form = step.form;
+    let next = on.next + 1;
+    let acted = perform_on(d, a, before, size, form);
+    let flags = acted.flags;
+    let came = acted.came;
+    let figure = acted.clocks as u64;
+    let clocks = on.clocks + figure;
+    if is_done(came) {
+        stands(next < stop, came, next, clocks, flags)
+    } else {
+        stands(false, came, next, clocks, flags)
+    }
+}
+
+// How a run ends, and where it would go on.
+struct Halted {
+    end: End,
+    next: usize,
+}
+
+fn halt(end: End, next: usize) -> Halted
+    ensures { λ r. ⌜ r ≡ record { end = end; next = next } ⌝ }
+{
+    Halted { end, next }
+}
+
+// At a place at which a run takes no step more.
 fn end_at(len: usize, next: usize) -> End
     ensures { λ r. ⌜ r ≡ endAt len next ⌝ }
 {
@@ -78,89 +155,71 @@ fn end_at(len: usize, next: usize) -> End
     }
 }
 
-// At such a place.
-fn arrive(len: usize, left: u32, next: usize, clocks: u64, flags: Flags) -> Course
-    ensures { λ r. ⌜ r ≡ arriveOf len left next clocks flags ⌝ }
+// The place before; 0 stays.
+fn place_before(next: usize) -> usize
+    ensures { λ r. ⌜ r ≡ next - 1 ⌝ }
 {
-    let end = end_at(len, next);
-    stands(0 < left, end, left, next, clocks, flags)
+    if 0 < next { next - 1 } else { 0 }
 }
 
-// A run that has ended.
-fn halt(end: End, left: u32, next: usize, clocks: u64, flags: Flags) -> Course
-    ensures { λ r. ⌜ r ≡ halted end left next clocks flags ⌝ }
+// Where a refused step stood, if `next` is the place behind it; a run that starts past the end has taken none.
+fn stood_at(fault: Fault, next: usize) -> usize
+    ensures { λ r. ⌜ r ≡ stoodAt fault next ⌝ }
 {
-    stands(false, end, left, next, clocks, flags)
-}
-
-// The steps that a run may take: one count, so that the loop has one to test.
-fn most(len: usize, start: usize, budget: u32) -> u32
-    requires { ⌜ start ≤ len ⌝ }
-    ensures { λ r. ⌜ r ≡ mostOf len start budget ⌝ }
-{
-    let rest = len - start;
-    if rest < budget as usize {
-        rest as u32
-    } else {
-        budget
+    match fault {
+        Fault::BadSmall => place_before(next),
+        Fault::NoSuchSize => place_before(next),
+        Fault::NoSuchRegister => place_before(next),
+        Fault::StartPastEnd => next,
     }
 }
 
-// Where a run starts.
-pub(crate) fn begin(len: usize, start: usize, budget: u32, flags: Flags) -> Course
-    ensures { λ r. ⌜ (r ≡ beginOf len start budget flags) × (r .going ≡ true → Ready len r) ⌝ }
+// `next` is the place behind the last step, which came out so. After a trap the run goes on there; a refused step is itself
+// the next place.
+fn halted_after(outcome: Outcome, len: usize, next: usize) -> Halted
+    ensures { λ r. ⌜ r ≡ haltedOf outcome len next ⌝ }
 {
-    if start <= len {
-        let left = most(len, start, budget);
-        arrive(len, left, start, 0, flags)
-    } else {
-        halt(End::Refused(Fault::StartPastEnd, start), 0, start, 0, flags)
-    }
-}
-
-// One step of a run that goes on.
-pub(crate) fn advance(
-    d: &mut [u32; 8],
-    a: &mut [u32; 8],
-    len: usize,
-    on: Course,
-    step: Step,
-) -> Course
-    requires { ⌜ Ready len on ⌝ }
-    ensures { λ r. ⌜ (Advanced len on (performOf (held (now (d .entry)) (now (a .entry)) (on .flags)) step) (now (d .exit)) (now (a .exit)) r) × ((r .left ≤ on .left) × (r .going ≡ true → Ready len r)) ⌝ }
-{
-    let before = on.flags;
-    let size = step.size;
-    let form = step.form;
-    let acted = perform_on(d, a, before, size, form);
-    let flags = acted.flags;
-    let outcome = acted.outcome;
-    let at = on.next;
-    let left = on.left - 1;
-    let next = at + 1;
-    let figure = acted.clocks as u64;
-    let clocks = on.clocks + figure;
     match outcome {
-        Outcome::Done => arrive(len, left, next, clocks, flags),
-        Outcome::Trapped(trap) => halt(End::Trapped(trap, at), left, next, clocks, flags),
-        Outcome::Refused(fault) => halt(End::Refused(fault, at), on.left, at, on.clocks, flags),
+        Outcome::Done => halt(end_at(len, next), next),
+        Outcome::Trapped(trap) => halt(End::Trapped(trap, place_before(next)), next),
+        Outcome::Refused(fault) => {
+            let at = stood_at(fault, next);
+            halt(End::Refused(fault, at), at)
+        }
     }
 }
 
-// What a run that has ended hands back; `first` is what it might take at its start.
-pub(crate) fn ended(d: [u32; 8], a: [u32; 8], first: u32, on: Course) -> Ran
-    requires { ⌜ on .left ≤ first ⌝ }
-    ensures { λ r. ⌜ r ≡ ranOf d a first on ⌝ }
+// What a run from `start` that has ended says.
+pub(crate) fn left_off(len: usize, start: usize, on: Course) -> Left
+    requires { ⌜ Halts len start on ⌝ }
+    ensures { λ r. ⌜ r ≡ leftOf len start on ⌝ }
 {
-    let end = on.end;
+    let came = on.came;
     let flags = on.flags;
-    let steps = first - on.left;
+    let halt = halted_after(outcome_of(came), len, on.next);
+    let end = halt.end;
+    let taken = halt.next - start;
+    Left {
+        end,
+        next: halt.next,
+        steps: taken as u32,
+        clocks: on.clocks,
+        flags,
+    }
+}
+
+// What a run says, and the registers that it left.
+pub(crate) fn ran_of(left: Left, d: [u32; 8], a: [u32; 8]) -> Ran
+    ensures { λ r. ⌜ r ≡ ranIn left d a ⌝ }
+{
+    let end = left.end;
+    let flags = left.flags;
     Ran {
         end,
         state: State { d, a, flags },
-        next: on.next,
-        steps,
-        clocks: on.clocks,
+        next: left.next,
+        steps: left.steps,
+        clocks: left.clocks,
     }
 }
 
@@ -178,16 +237,8 @@ pub fn run_array(
     let mut d = state.d;
     let mut a = state.a;
     let flags = state.flags;
-    let mut on = begin(len, start, budget, flags);
-    let first = on.left;
-    let mut going = on.going;
-    while going {
-        let at = on.next;
-        let step = listing[at];
-        on = advance(&mut d, &mut a, len, on, step);
-        going = on.going;
-    }
-    ended(d, a, first, on)
+    let left = run_first(listing, len, &mut d, &mut a, flags, start, budget);
+    ran_of(left, d, a)
 }
 
 // A run before its first step.

@@ -3,15 +3,19 @@
 ghost use mathlib.Core.Path.{_≡_};
 ghost use mathlib.Core.Bool.{_&&_};
 ghost use mathlib.Core.List.{List};
+ghost use lib.ListN.{set};
 ghost use Prim.Native.Nat.{ℕ};
 ghost use Rattle.alu.specs.Shifts.{shiftOf};
 ghost use Rattle.alu.specs.Bitops.{bitopOf};
 ghost use Rattle.step.specs.declared.forms.Form.the-variants as Form;
 ghost use Rattle.step.specs.declared.forms.Register.the-variants as Register;
-ghost use Rattle.step.specs.Perform.{numberOf, classOf, refusalOf, registerThere, countThere, within, countWithin};
-ghost use Rattle.step.specs.Perform.{notByte, isWord, isLong, oneSize, twoOf, onAddressOf, quickOf, quickAddressOf, oneOf};
-ghost use Rattle.step.specs.Perform.{registerValue, countValue, outcomeOf, performForm, performOf};
-ghost use Rattle.step.specs.Course.{held, leaving, saidOf, refusedOf};
+ghost use Rattle.step.specs.declared.steps.Came.the-variants as How;
+ghost use Rattle.step.specs.Registers.{mergedOf};
+ghost use Rattle.step.specs.Perform.{numberOf, classOf, registerThere, countThere, within};
+ghost use Rattle.step.specs.Perform.{notByte, isWord, isLong, twoOf, onAddressOf, quickOf, quickAddressOf};
+ghost use Rattle.step.specs.Perform.{registerValue, outcomeOf, performForm, performOf};
+ghost use Rattle.step.specs.Lent.{held};
+ghost use Rattle.step.specs.Course.{cameOut, isDone, leaving, saidOf, refusedOf, countedOf, countFault, outcomeFrom};
 use super::forms::AddressOp;
 use super::forms::Count;
 use super::forms::Form;
@@ -20,12 +24,14 @@ use super::forms::QuickOp;
 use super::forms::Register;
 use super::forms::Step;
 use super::forms::TwoOp;
+use super::lent::run_one;
 use super::registers::A;
 use super::registers::D;
 use super::registers::State;
 use super::registers::merged;
 use super::registers::read;
 use super::registers::write;
+use super::runs::End;
 use alu::bit_manip::BitOp;
 use alu::bit_manip::exec_bchg;
 use alu::bit_manip::exec_bclr;
@@ -91,15 +97,27 @@ pub struct Performed {
     pub clocks: u32,
 }
 
-// Whether a step may be done.
-enum Ruling {
-    Sound,
-    Faulty(Fault),
+// How a step comes out, in one byte: the two of an `Outcome` are packed into a number and taken apart at each step.
+pub(crate) enum Came {
+    Done,
+    Over,
+    Short,
+    Below,
+    BadSmall,
+    NoSuchSize,
+    NoSuchRegister,
+    StartPastEnd,
+}
+
+// A shift's count or a bit's number: whether it may be, and its value.
+struct Counted {
+    fits: bool,
+    value: u32,
 }
 
 // What a step says beside the registers that it leaves.
 pub(crate) struct Acted {
-    pub outcome: Outcome,
+    pub came: Came,
     pub flags: Flags,
     pub clocks: u32,
 }
@@ -124,25 +142,6 @@ pub fn class(trap: Trap) -> u32
         Trap::Over => 1,
         Trap::Short => 2,
         Trap::Below => 3,
-    }
-}
-
-// The order of the tests: 3, 2, 1.
-fn refusal(registers: bool, size: bool, small: bool) -> Ruling
-    ensures { λ r. ⌜ r ≡ refusalOf registers size small ⌝ }
-{
-    if registers {
-        if size {
-            if small {
-                Ruling::Sound
-            } else {
-                Ruling::Faulty(Fault::BadSmall)
-            }
-        } else {
-            Ruling::Faulty(Fault::NoSuchSize)
-        }
-    } else {
-        Ruling::Faulty(Fault::NoSuchRegister)
     }
 }
 
@@ -182,19 +181,6 @@ fn not_byte(size: Size) -> bool
     }
 }
 
-// EXT has no byte form.
-fn one_size(op: OneOp, size: Size) -> bool
-    ensures { λ r. ⌜ r ≡ oneSize op size ⌝ }
-{
-    match op {
-        OneOp::Clr => true,
-        OneOp::Neg => true,
-        OneOp::Negx => true,
-        OneOp::Not => true,
-        OneOp::Ext => not_byte(size),
-    }
-}
-
 fn register_there(p: Register) -> bool
     ensures { λ r. ⌜ r ≡ registerThere p ⌝ }
 {
@@ -217,15 +203,6 @@ fn within(least: u8, most: u8, k: u8) -> bool
     ensures { λ r. ⌜ r ≡ within least most k ⌝ }
 {
     both(least <= k, k <= most)
-}
-
-fn count_within(least: u8, most: u8, c: Count) -> bool
-    ensures { λ r. ⌜ r ≡ countWithin least most c ⌝ }
-{
-    match c {
-        Count::Small(k) => within(least, most, k),
-        Count::Data(_) => true,
-    }
 }
 
 fn two(op: TwoOp, size: Size, src: u32, dst: u32, flags: Flags) -> Answer
@@ -268,18 +245,6 @@ fn quick_address(op: QuickOp, size: Size, small: u32, dst: u32, flags: Flags) ->
     }
 }
 
-fn one(op: OneOp, size: Size, dst: u32, flags: Flags) -> Answer
-    ensures { λ r. ⌜ r ≡ oneOf op size dst flags ⌝ }
-{
-    match op {
-        OneOp::Clr => exec_clr(size, flags),
-        OneOp::Neg => exec_neg(size, dst, flags),
-        OneOp::Negx => exec_negx(size, dst, flags),
-        OneOp::Not => exec_not(size, dst, flags),
-        OneOp::Ext => exec_ext(size, dst, flags),
-    }
-}
-
 fn shift(op: ShiftOp, size: Size, count: u32, dst: u32, flags: Flags) -> Answer
     ensures { λ r. ⌜ r ≡ shiftOf op size count dst flags ⌝ }
 {
@@ -315,43 +280,91 @@ fn register_value(d: &[u32; 8], a: &[u32; 8], p: Register) -> u32
     }
 }
 
+// Why a count that does not fit is refused.
+fn count_fault(c: Count) -> Came
+    ensures { λ r. ⌜ r ≡ countFault c ⌝ }
+{
+    match c {
+        Count::Small(_) => Came::BadSmall,
+        Count::Data(_) => Came::NoSuchRegister,
+    }
+}
+
 // A register as a shift's count is taken mod 64, as a bit's number mod 32.
-fn shift_count(d: &[u32; 8], c: Count) -> u32
-    ensures { λ r. ⌜ ((a : List ℕ) (f : Flags) → r ≡ countValue (held (now (d .entry)) a f) 64 c) ⌝ }
+fn shift_count(d: &[u32; 8], c: Count) -> Counted
+    ensures { λ r. ⌜ ((a : List ℕ) (f : Flags) → r ≡ countedOf 1 8 64 (held (now (d .entry)) a f) c) ⌝ }
 {
     match c {
-        Count::Small(k) => k as u32,
-        Count::Data(r) => read(d, r.0) % 64,
+        Count::Small(k) => Counted {
+            fits: within(1, 8, k),
+            value: k as u32,
+        },
+        Count::Data(r) => Counted {
+            fits: r.0 < 8,
+            value: read(d, r.0) % 64,
+        },
     }
 }
 
-fn bit_number(d: &[u32; 8], c: Count) -> u32
-    ensures { λ r. ⌜ ((a : List ℕ) (f : Flags) → r ≡ countValue (held (now (d .entry)) a f) 32 c) ⌝ }
+fn bit_number(d: &[u32; 8], c: Count) -> Counted
+    ensures { λ r. ⌜ ((a : List ℕ) (f : Flags) → r ≡ countedOf 0 31 32 (held (now (d .entry)) a f) c) ⌝ }
 {
     match c {
-        Count::Small(k) => k as u32,
-        Count::Data(r) => read(d, r.0) % 32,
+        Count::Small(k) => Counted {
+            fits: within(0, 31, k),
+            value: k as u32,
+        },
+        Count::Data(r) => Counted {
+            fits: r.0 < 8,
+            value: read(d, r.0) % 32,
+        },
     }
 }
 
-fn outcome_of(check: Check) -> Outcome
-    ensures { λ r. ⌜ r ≡ outcomeOf check ⌝ }
+fn came_of(check: Check) -> Came
+    ensures { λ r. ⌜ cameOut r ≡ outcomeOf check ⌝ }
 {
     match check {
-        Check::Pass => Outcome::Done,
-        Check::Over => Outcome::Trapped(Trap::Over),
-        Check::Short => Outcome::Trapped(Trap::Short),
-        Check::Below => Outcome::Trapped(Trap::Below),
+        Check::Pass => Came::Done,
+        Check::Over => Came::Over,
+        Check::Short => Came::Short,
+        Check::Below => Came::Below,
+    }
+}
+
+// The outcome that it stands for.
+pub(crate) fn outcome_of(came: Came) -> Outcome
+    ensures { λ r. ⌜ r ≡ cameOut came ⌝ }
+{
+    match came {
+        Came::Done => Outcome::Done,
+        Came::Over => Outcome::Trapped(Trap::Over),
+        Came::Short => Outcome::Trapped(Trap::Short),
+        Came::Below => Outcome::Trapped(Trap::Below),
+        Came::BadSmall => Outcome::Refused(Fault::BadSmall),
+        Came::NoSuchSize => Outcome::Refused(Fault::NoSuchSize),
+        Came::NoSuchRegister => Outcome::Refused(Fault::NoSuchRegister),
+        Came::StartPastEnd => Outcome::Refused(Fault::StartPastEnd),
+    }
+}
+
+pub(crate) fn is_done(came: Came) -> bool
+    ensures { λ r. ⌜ r ≡ isDone (cameOut came) ⌝ }
+{
+    match came {
+        Came::Done => true,
+        Came::Over | Came::Short | Came::Below => false,
+        Came::BadSmall | Came::NoSuchSize | Came::NoSuchRegister | Came::StartPastEnd => false,
     }
 }
 
 // What a step says once the operation has answered. Here alone the operation's figure becomes the step's. The flags go
 // over one by one, as in alu::types::accepted.
-fn said(outcome: Outcome, answer: Answer) -> Acted
-    ensures { λ r. ⌜ r ≡ saidOf outcome answer ⌝ }
+fn said(came: Came, answer: Answer) -> Acted
+    ensures { λ r. ⌜ r ≡ saidOf came answer ⌝ }
 {
     Acted {
-        outcome,
+        came,
         flags: Flags {
             x: answer.flags.x,
             n: answer.flags.n,
@@ -364,11 +377,11 @@ fn said(outcome: Outcome, answer: Answer) -> Acted
 }
 
 // What a refused step says: it changes nothing.
-fn refused(fault: Fault, flags: Flags) -> Acted
-    ensures { λ r. ⌜ r ≡ refusedOf fault flags ⌝ }
+fn refused(came: Came, flags: Flags) -> Acted
+    ensures { λ r. ⌜ r ≡ refusedOf came flags ⌝ }
 {
     Acted {
-        outcome: Outcome::Refused(fault),
+        came,
         flags: Flags {
             x: flags.x,
             n: flags.n,
@@ -380,19 +393,32 @@ fn refused(fault: Fault, flags: Flags) -> Acted
     }
 }
 
+// The result goes to a data register, at the step's size; `old` is what the register holds.
+fn to_data(d: &mut [u32; 8], size: Size, t: D, old: u32, answer: Answer) -> Acted
+    ensures { λ r. ⌜ (now (d .exit) ≡ set (now (d .entry)) (t .0) (mergedOf size old (answer .result))) × (r ≡ saidOf How.Done answer) ⌝ }
+{
+    write(d, t.0, merged(size, old, answer.result));
+    said(Came::Done, answer)
+}
+
+// The result goes whole to a register.
+fn to_whole(registers: &mut [u32; 8], t: u8, answer: Answer) -> Acted
+    ensures { λ r. ⌜ (now (registers .exit) ≡ set (now (registers .entry)) t (answer .result)) × (r ≡ saidOf How.Done answer) ⌝ }
+{
+    write(registers, t, answer.result);
+    said(Came::Done, answer)
+}
+
 // ADD, SUB, CMP, ADDX, SUBX Ds,Dt
 fn step_two(d: &mut [u32; 8], flags: Flags, size: Size, op: TwoOp, s: D, t: D) -> Acted
     ensures { λ r. ⌜ ((a : List ℕ) → leaving (now (d .exit)) a r ≡ performForm (held (now (d .entry)) a flags) size (Form.Two op s t)) ⌝ }
 {
-    match refusal(both(s.0 < 8, t.0 < 8), true, true) {
-        Ruling::Faulty(fault) => refused(fault, flags),
-        Ruling::Sound => {
-            let src = read(d, s.0);
-            let dst = read(d, t.0);
-            let answer = two(op, size, src, dst, flags);
-            write(d, t.0, merged(size, dst, answer.result));
-            said(Outcome::Done, answer)
-        }
+    if both(s.0 < 8, t.0 < 8) {
+        let src = read(d, s.0);
+        let dst = read(d, t.0);
+        to_data(d, size, t, dst, two(op, size, src, dst, flags))
+    } else {
+        refused(Came::NoSuchRegister, flags)
     }
 }
 
@@ -408,15 +434,16 @@ fn step_address(
 ) -> Acted
     ensures { λ r. ⌜ leaving (now (d .entry)) (now (a .exit)) r ≡ performForm (held (now (d .entry)) (now (a .entry)) flags) size (Form.Address op s t) ⌝ }
 {
-    match refusal(both(register_there(s), t.0 < 8), not_byte(size), true) {
-        Ruling::Faulty(fault) => refused(fault, flags),
-        Ruling::Sound => {
+    if both(register_there(s), t.0 < 8) {
+        if not_byte(size) {
             let src = register_value(d, a, s);
             let dst = read(a, t.0);
-            let answer = on_address(op, size, src, dst, flags);
-            write(a, t.0, answer.result);
-            said(Outcome::Done, answer)
+            to_whole(a, t.0, on_address(op, size, src, dst, flags))
+        } else {
+            refused(Came::NoSuchSize, flags)
         }
+    } else {
+        refused(Came::NoSuchRegister, flags)
     }
 }
 
@@ -424,14 +451,15 @@ fn step_address(
 fn step_quick(d: &mut [u32; 8], flags: Flags, size: Size, op: QuickOp, k: u8, t: D) -> Acted
     ensures { λ r. ⌜ ((a : List ℕ) → leaving (now (d .exit)) a r ≡ performForm (held (now (d .entry)) a flags) size (Form.Quick op k (Register.Data t))) ⌝ }
 {
-    match refusal(t.0 < 8, true, within(1, 8, k)) {
-        Ruling::Faulty(fault) => refused(fault, flags),
-        Ruling::Sound => {
+    if t.0 < 8 {
+        if within(1, 8, k) {
             let dst = read(d, t.0);
-            let answer = quick(op, size, k as u32, dst, flags);
-            write(d, t.0, merged(size, dst, answer.result));
-            said(Outcome::Done, answer)
+            to_data(d, size, t, dst, quick(op, size, k as u32, dst, flags))
+        } else {
+            refused(Came::BadSmall, flags)
         }
+    } else {
+        refused(Came::NoSuchRegister, flags)
     }
 }
 
@@ -439,29 +467,41 @@ fn step_quick(d: &mut [u32; 8], flags: Flags, size: Size, op: QuickOp, k: u8, t:
 fn step_quick_address(a: &mut [u32; 8], flags: Flags, size: Size, op: QuickOp, k: u8, t: A) -> Acted
     ensures { λ r. ⌜ ((d : List ℕ) → leaving d (now (a .exit)) r ≡ performForm (held d (now (a .entry)) flags) size (Form.Quick op k (Register.Address t))) ⌝ }
 {
-    match refusal(t.0 < 8, not_byte(size), within(1, 8, k)) {
-        Ruling::Faulty(fault) => refused(fault, flags),
-        Ruling::Sound => {
-            let dst = read(a, t.0);
-            let answer = quick_address(op, size, k as u32, dst, flags);
-            write(a, t.0, answer.result);
-            said(Outcome::Done, answer)
+    if t.0 < 8 {
+        if not_byte(size) {
+            if within(1, 8, k) {
+                let dst = read(a, t.0);
+                to_whole(a, t.0, quick_address(op, size, k as u32, dst, flags))
+            } else {
+                refused(Came::BadSmall, flags)
+            }
+        } else {
+            refused(Came::NoSuchSize, flags)
         }
+    } else {
+        refused(Came::NoSuchRegister, flags)
     }
 }
 
-// CLR, NEG, NEGX, NOT, EXT Dt
+// CLR, NEG, NEGX, NOT, EXT Dt. EXT answers the whole register.
 fn step_one(d: &mut [u32; 8], flags: Flags, size: Size, op: OneOp, t: D) -> Acted
     ensures { λ r. ⌜ ((a : List ℕ) → leaving (now (d .exit)) a r ≡ performForm (held (now (d .entry)) a flags) size (Form.One op t)) ⌝ }
 {
-    match refusal(t.0 < 8, one_size(op, size), true) {
-        Ruling::Faulty(fault) => refused(fault, flags),
-        Ruling::Sound => {
-            let dst = read(d, t.0);
-            let answer = one(op, size, dst, flags);
-            write(d, t.0, merged(size, dst, answer.result));
-            said(Outcome::Done, answer)
+    if t.0 < 8 {
+        let dst = read(d, t.0);
+        match op {
+            OneOp::Clr => to_data(d, size, t, dst, exec_clr(size, flags)),
+            OneOp::Neg => to_data(d, size, t, dst, exec_neg(size, dst, flags)),
+            OneOp::Negx => to_data(d, size, t, dst, exec_negx(size, dst, flags)),
+            OneOp::Not => to_data(d, size, t, dst, exec_not(size, dst, flags)),
+            OneOp::Ext => if not_byte(size) {
+                to_whole(d, t.0, exec_ext(size, dst, flags))
+            } else {
+                refused(Came::NoSuchSize, flags)
+            },
         }
+    } else {
+        refused(Came::NoSuchRegister, flags)
     }
 }
 
@@ -469,35 +509,40 @@ fn step_one(d: &mut [u32; 8], flags: Flags, size: Size, op: OneOp, t: D) -> Acte
 fn step_shift(d: &mut [u32; 8], flags: Flags, size: Size, op: ShiftOp, c: Count, t: D) -> Acted
     ensures { λ r. ⌜ ((a : List ℕ) → leaving (now (d .exit)) a r ≡ performForm (held (now (d .entry)) a flags) size (Form.Shift op c t)) ⌝ }
 {
-    match refusal(both(count_there(c), t.0 < 8), true, count_within(1, 8, c)) {
-        Ruling::Faulty(fault) => refused(fault, flags),
-        Ruling::Sound => {
-            let count = shift_count(d, c);
+    if t.0 < 8 {
+        let count = shift_count(d, c);
+        if count.fits {
             let dst = read(d, t.0);
-            let answer = shift(op, size, count, dst, flags);
-            write(d, t.0, merged(size, dst, answer.result));
-            said(Outcome::Done, answer)
+            to_data(d, size, t, dst, shift(op, size, count.value, dst, flags))
+        } else {
+            refused(count_fault(c), flags)
         }
+    } else {
+        refused(Came::NoSuchRegister, flags)
     }
 }
 
-// BTST, BSET, BCLR, BCHG #c,Dt or Dc,Dt
+// BTST, BSET, BCLR, BCHG #c,Dt or Dc,Dt. The count is looked at once, after register and size. Where the
+// size is wrong, a register of the count that is not there comes first.
 fn step_bit(d: &mut [u32; 8], flags: Flags, size: Size, op: BitOp, c: Count, t: D) -> Acted
     ensures { λ r. ⌜ ((a : List ℕ) → leaving (now (d .exit)) a r ≡ performForm (held (now (d .entry)) a flags) size (Form.Bit op c t)) ⌝ }
 {
-    match refusal(
-        both(count_there(c), t.0 < 8),
-        is_long(size),
-        count_within(0, 31, c),
-    ) {
-        Ruling::Faulty(fault) => refused(fault, flags),
-        Ruling::Sound => {
+    if t.0 < 8 {
+        if is_long(size) {
             let number = bit_number(d, c);
-            let dst = read(d, t.0);
-            let answer = bit(op, size, number, dst, flags);
-            write(d, t.0, merged(size, dst, answer.result));
-            said(Outcome::Done, answer)
+            if number.fits {
+                let dst = read(d, t.0);
+                to_data(d, size, t, dst, bit(op, size, number.value, dst, flags))
+            } else {
+                refused(count_fault(c), flags)
+            }
+        } else if count_there(c) {
+            refused(Came::NoSuchSize, flags)
+        } else {
+            refused(Came::NoSuchRegister, flags)
         }
+    } else {
+        refused(Came::NoSuchRegister, flags)
     }
 }
 
@@ -505,16 +550,19 @@ fn step_bit(d: &mut [u32; 8], flags: Flags, size: Size, op: BitOp, c: Count, t: 
 fn step_chk(d: &[u32; 8], flags: Flags, size: Size, s: D, t: D) -> Acted
     ensures { λ r. ⌜ ((a : List ℕ) → leaving (now (d .entry)) a r ≡ performForm (held (now (d .entry)) a flags) size (Form.Chk s t)) ⌝ }
 {
-    match refusal(both(s.0 < 8, t.0 < 8), is_word(size), true) {
-        Ruling::Faulty(fault) => refused(fault, flags),
-        Ruling::Sound => {
+    if both(s.0 < 8, t.0 < 8) {
+        if is_word(size) {
             let bound = read(d, s.0);
             let value = read(d, t.0);
             let chk = exec_chk(size, bound, value, flags);
             let check = chk.check;
             let answer = chk.answer;
-            said(outcome_of(check), answer)
+            said(came_of(check), answer)
+        } else {
+            refused(Came::NoSuchSize, flags)
         }
+    } else {
+        refused(Came::NoSuchRegister, flags)
     }
 }
 
@@ -542,21 +590,33 @@ pub(crate) fn perform_on(
     }
 }
 
-// One step by value.
+// The outcome of a run of one step.
+fn outcome_from(end: End) -> Outcome
+    ensures { λ r. ⌜ r ≡ outcomeFrom end ⌝ }
+{
+    match end {
+        End::Finished => Outcome::Done,
+        End::Budget => Outcome::Done,
+        End::Trapped(trap, _) => Outcome::Trapped(trap),
+        End::Refused(fault, _) => Outcome::Refused(fault),
+    }
+}
+
+// One step by value: a run of one step. A figure has 32 bits.
 pub fn perform(state: State, step: Step) -> Performed
     ensures { λ r. ⌜ r ≡ performOf state step ⌝ }
 {
     let mut d = state.d;
     let mut a = state.a;
     let before = state.flags;
-    let size = step.size;
-    let form = step.form;
-    let acted = perform_on(&mut d, &mut a, before, size, form);
-    let flags = acted.flags;
-    let outcome = acted.outcome;
+    let left = run_one(step, &mut d, &mut a, before);
+    let end = left.end;
+    let flags = left.flags;
+    let outcome = outcome_from(end);
+    let clocks = left.clocks % 0x1_0000_0000;
     Performed {
         outcome,
         state: State { d, a, flags },
-        clocks: acted.clocks,
+        clocks: clocks as u32,
     }
 }

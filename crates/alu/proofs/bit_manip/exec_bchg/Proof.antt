@@ -11,7 +11,8 @@ returns : tie.Need-returns
 unfolding bitopOf
 returns c =
     let a = c .before .before .before .before .args in
-    rw (c .before .bit-answer .ensures, c .before .before .upper-figure .ensures, c .before .before .before .weight .ensures, change-bit (a .number % 32) (a .value)) at (c .only-long .ensures)
+    let w-is = c .before .before .before .weight .ensures in
+    rw (c .before .bit-answer .ensures (a .number % 32) w-is, c .before .before .upper-figure .ensures, w-is, change-bit (a .number % 32) (a .value)) at (c .only-long .ensures)
 
 pub exec-bchg-spec : {M : Type 1} → statement M
 exec-bchg-spec = tie.close (tie.spec (search needs) (search needs) (search needs) (search needs) returns)

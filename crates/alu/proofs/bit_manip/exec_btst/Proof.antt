@@ -1,5 +1,6 @@
 -- `exec_btst` meets its contract.
 -- Assumes nothing.
+use Prim.Native.Nat.{_%_}
 use borrow.Author.Needs.{needs}
 use Rattle.alu.specs.Bitops.{bitopOf}
 use Rattle.alu.proofs.bit_manip.exec_btst.Statement.{statement}
@@ -7,7 +8,9 @@ use Rattle.alu.proofs.bit_manip.exec_btst.Tie as tie
 
 returns : tie.Need-returns
 unfolding bitopOf
-returns c = rw (c .before .bit-answer .ensures) at (c .only-long .ensures)
+returns c =
+    let a = c .before .before .before .args in
+    rw (c .before .bit-answer .ensures (a .number % 32) (c .before .before .weight .ensures)) at (c .only-long .ensures)
 
 pub exec-btst-spec : {M : Type 1} → statement M
-exec-btst-spec = tie.close (tie.spec (search needs) (search needs) returns)
+exec-btst-spec = tie.close (tie.spec (search needs) (search needs) (search needs) returns)

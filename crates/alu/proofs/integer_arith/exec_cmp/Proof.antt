@@ -9,4 +9,4 @@ exec-cmp-spec =
     tie.close
     (tie.spec
     (search needs) (search needs) (search needs)
-    (λ c. rw (c .before .set-cmp-flags .ensures, c .before .before .subtract .ensures) at (c .accepted .ensures)))
+    (λ c. rw (c .before .keep-x .ensures, c .before .before .subtract .ensures) at (c .accepted .ensures)))

@@ -1,18 +1,12 @@
+use native.Mathlib.Omega.{arith}
 use borrow.Author.Needs.{needs}
+use Rattle.step.proofs.Sound.{merged-mask}
 use Rattle.step.proofs.registers.merged.Statement.{statement}
 use Rattle.step.proofs.registers.merged.Tie as tie
 
 returns : tie.Need-returns
-returns c = rw (c .enum-told .given .1)
-
-returns-2 : tie.Need-returns-2
-returns-2 c = rw (c .enum-told2 .given .1)
-
-returns-3 : tie.Need-returns-3
-returns-3 c = rw (c .enum-told3 .given .1)
+returns c =
+    let a = c .before .args in rw (c .width-of .ensures) (merged-mask (a .size) (a .old) (a .value) (omega arith) (omega arith))
 
 pub merged-spec : {M : Type 1} → statement M
-merged-spec =
-    tie.close
-    (tie.spec
-    (search needs) (search needs) (search needs) (search needs) (search needs) (search needs) (search needs) returns returns-2 returns-3)
+merged-spec = tie.close (tie.spec (search needs) returns)
