@@ -61,10 +61,10 @@ def subtracted(d, s, x, zero):
 # the source s and the flags f. A shift by #1 costs 8 and 2 for the one place.
 Operation = collections.namedtuple("Operation", "source clocks rule")
 OPERATIONS = {
-    "ADD": Operation("D", 4, lambda d, s, f: added(d, s, 0, Z)),
-    "ADDX": Operation("D", 4, lambda d, s, f: added(d, s, f // X, f)),
-    "SUB": Operation("D", 4, lambda d, s, f: subtracted(d, s, 0, Z)),
-    "SUBX": Operation("D", 4, lambda d, s, f: subtracted(d, s, f // X, f)),
+    "ADD": Operation("D", 8, lambda d, s, f: added(d, s, 0, Z)),
+    "ADDX": Operation("D", 8, lambda d, s, f: added(d, s, f // X, f)),
+    "SUB": Operation("D", 8, lambda d, s, f: subtracted(d, s, 0, Z)),
+    "SUBX": Operation("D", 8, lambda d, s, f: subtracted(d, s, f // X, f)),
     "NEG": Operation("-", 6, lambda d, s, f: subtracted(0, d, 0, Z)),
     "NEGX": Operation("-", 6, lambda d, s, f: subtracted(0, d, f // X, f)),
     "CLR": Operation("-", 6, lambda d, s, f: seen(0, f & X)),

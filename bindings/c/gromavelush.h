@@ -61,7 +61,8 @@ enum gro_operation {
  * One operation on values. src is the source, small number, count, bit number or CHK's bound; dst all 32 bits of the destination.
  * Bits of the answer: 0 to 31 the result, 32 to 36 the flags, 40 to 47 the clock figure, 48 and 49 the refusal number (0: accepted),
  * 52 and 53 CHK's class (0 Pass, 1 Over, 2 Short, 3 Below); all others are 0. A number that names no operation or no size is refused
- * with 2. Refused, result, figure and class are 0 and the flags as they came.
+ * with 2. Refused, result, figure and class are 0 and the flags as they came. The figure is document 01's; as a step six operations
+ * have another: long ADD, SUB, ADDX and SUBX 8 for 4, long CMP 6 for 4, and BCLR below bit 16 8 for 10.
  */
 uint64_t alu_call(uint8_t operation, uint8_t size, uint32_t src, uint32_t dst, uint8_t flags);
 
@@ -102,8 +103,8 @@ void rack_run(const uint64_t *listing, size_t length, uint32_t *d, size_t d_leng
  * Prints a listing as the program recipe does, with this width in the first line. A listing longer than GRO_SLOTS is cut: it ends at
  * GRO_SLOTS. Test its length before. Answers how many bytes it wrote, with no 0 behind them; what has no room is left off. GRO_ROOM
  * bytes are enough for any listing. The last line has the sum of the figures that the steps have where all registers and flags are 0:
- * those of a recipe's steps are the same everywhere; a shift, BSET or BCHG by a register, or a CHK, may have another in a run, and a
- * step that is refused has 0. A word that names no step prints as CHK B D0 D0.
+ * those of a recipe's steps are the same everywhere; a shift, BSET, BCLR or BCHG by a register, or a CHK, may have another in a run,
+ * and a step that is refused has 0. A word that names no step prints as CHK B D0 D0.
  */
 size_t listing_print(uint8_t width, const uint64_t *listing, size_t length, uint8_t *out, size_t room);
 

@@ -12,7 +12,7 @@ enum { GUARD = 64, MARK = 0xA5, MOST = GRO_SLOTS + 44, REGISTERS = 8 };
 
 static const char example[] = "width\t2\nadd\t0\t1\nneg\t1\n";
 static const char printed[] =
-    "width\t2\t4\n0\tADD\tL\tD0\tD2\n1\tADDX\tL\tD1\tD3\n2\tNEG\tL\t-\tD2\n3\tNEGX\tL\t-\tD3\nclocks\t20\n";
+    "width\t2\t4\n0\tADD\tL\tD0\tD2\n1\tADDX\tL\tD1\tD3\n2\tNEG\tL\t-\tD2\n3\tNEGX\tL\t-\tD3\nclocks\t28\n";
 
 /* The example's steps: two of its first line, two of its second. */
 enum { STEPS = 4 };
@@ -89,6 +89,8 @@ static void test_operations(void) {
     is(alu_call(GRO_ADD, GRO_BYTE, 0x01, 0x7F, 0), 0x80, GRO_N | GRO_V, 4, "sum 1");
     is(alu_call(GRO_ADD, GRO_BYTE, 0x01, 0xFF, 0), 0x00, GRO_X | GRO_Z | GRO_C, 4, "sum 2");
     is(alu_call(GRO_ADDX, GRO_LONG, 0, 0xFFFFFFFF, 0xF0), 0, GRO_X | GRO_C, 4, "sum 3, with bits above X");
+    is(alu_call(GRO_ADD, GRO_LONG, 1, 1, 0), 2, 0, 4, "long ADD, which has 8 as a step");
+    is(alu_call(GRO_BCLR, GRO_LONG, 3, 8, 0), 0, 0, 10, "BCLR below bit 16, which has 8 as a step");
     is(alu_call(GRO_ROL, GRO_BYTE, 8, 0x81, 0), 0x81, GRO_N | GRO_C, 22, "sum 9");
     check(alu_call(GRO_CHK, GRO_WORD, 1, 0x8000, 0) >> 52 == 2, "sum 11", 0);
     check(alu_call(GRO_ROXL, GRO_BYTE, 64, 1, 31) == ((uint64_t)31 << 32 | (uint64_t)1 << 48), "refused with 1", 0);
@@ -332,7 +334,7 @@ static void run_recipe_one(const char *text, const uint64_t *should, uint32_t d2
 }
 
 static void test_recipes(void) {
-    const uint64_t sum_12[GRO_TOLD] = {0, 0, 31, 4, 20}, refused[GRO_TOLD] = {6, 2, 31, 0, 0}, open[GRO_TOLD] = {0, 0, 16, 2, 20};
+    const uint64_t sum_12[GRO_TOLD] = {0, 0, 31, 4, 28}, refused[GRO_TOLD] = {6, 2, 31, 0, 0}, open[GRO_TOLD] = {0, 0, 16, 2, 20};
     const uint64_t slip[GRO_TOLD] = {12, 2, 31, 0, 0, 8};
     run_recipe_one(example, sum_12, 0, 0xFFFFFFFF, GRO_X | GRO_N | GRO_C);
     run_recipe_one("width\t4\nadd\t0\t2\n", refused, 0xFFFFFFFF, 0, 31);

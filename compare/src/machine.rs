@@ -97,7 +97,17 @@ impl Machine {
         figure
     }
 
-    /// One step; its figure.
+    /// What a step's figure has above the one that the crate returns: document 02, item 3.
+    fn above(&self, step: &Step) -> i64 {
+        match (step.form, step.size) {
+            (Form::Two(Two::Cmp, ..), Size::Long) => 2,
+            (Form::Two(..), Size::Long) => 4,
+            (Form::Bit(Bit::Bclr, count, _), _) if self.count(count) % 32 < 16 => -2,
+            _ => 0,
+        }
+    }
+
+    /// One step; the figure that the crate returns.
     #[inline]
     fn step(&mut self, step: &Step) -> i32 {
         let size = step.size.of_crate();
@@ -148,7 +158,7 @@ impl Machine {
         }
     }
 
-    /// A run of steps that are all done. It becomes part of its caller, as `tuned::run` does.
+    /// A run of steps that are all done, with the crate's figures. It becomes part of its caller, as `tuned::run` does.
     #[inline(always)]
     pub fn run(&mut self, listing: &[Step], start: usize, budget: u32) -> Ran {
         let (mut next, mut steps, mut clocks) = (start, 0u32, 0u64);
@@ -163,5 +173,18 @@ impl Machine {
             next += 1;
             steps += 1;
         }
+    }
+
+    /// The same, step by step, with the figures of steps.
+    pub fn run_with_figures(&mut self, listing: &[Step], start: usize, budget: u32) -> Ran {
+        let mut ran = self.run(listing, start, 0);
+        for _ in 0..budget {
+            let Some(step) = listing.get(ran.next) else { break };
+            let above = self.above(step);
+            let Ran { end, next, steps, clocks } = self.run(listing, ran.next, 1);
+            let clocks = (ran.clocks + clocks).strict_add_signed(above);
+            ran = Ran { end, next, steps: ran.steps + steps, clocks };
+        }
+        ran
     }
 }

@@ -227,7 +227,7 @@ pub fn translate(recipe: &Recipe, slots: usize) -> Result<Vec<Step>, Refused> {
 /// A step's operation, source, destination and clock figure.
 fn told(step: &Step) -> (String, String, u8, u64) {
     match step.form {
-        Form::Two(op, from, to) => (format!("{op:?}"), format!("D{from}"), to, 4),
+        Form::Two(op, from, to) => (format!("{op:?}"), format!("D{from}"), to, 8),
         Form::One(op, on) => (format!("{op:?}"), "-".into(), on, 6),
         Form::Shift(op, Count::Small(by), on) => {
             (format!("{op:?}"), format!("#{by}"), on, 8 + 2 * u64::from(by))

@@ -41,9 +41,10 @@ pub unsafe extern "C" fn crate_rounds(listing: *const Step, length: usize, pairs
     // SAFETY: as above.
     let listing = unsafe { std::slice::from_raw_parts(listing, length) };
     let (mut machine, mut answer, (start, budget)) = (Machine::new(FIRST), NO_RAN, opaque());
-    for _ in 0..2 * pairs {
+    for _ in 1..2 * pairs {
         through_crate(&mut answer, listing, &mut machine, start, budget);
     }
+    answer = machine.run_with_figures(listing, start, budget); // the last one, for its digest
     digest(answer.told(), &machine.state())
 }
 

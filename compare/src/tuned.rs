@@ -1,5 +1,5 @@
 //! A hand-tuned Rust loop over step records, executed in place, with document 01's refusals and traps: written after
-//! document 01 and not after the port. The proved run is held and measured against it.
+//! document 01, its figures after 02's item 3, and not after the port. The proved run is held and measured against it.
 
 use crate::steps::*;
 
@@ -98,7 +98,7 @@ impl State {
                         self.put(size, t, r)
                     }
                 }
-                Ok(4)
+                Ok(long(4, if op == Two::Cmp { 6 } else { 8 }))
             }
             Form::Address(op, p, t) => {
                 let t = t as usize;
@@ -308,7 +308,7 @@ impl State {
                     }
                     Bit::Bclr => {
                         self.d[t] &= !b;
-                        Ok(10)
+                        Ok(if k < 16 { 8 } else { 10 })
                     }
                     Bit::Bchg => {
                         self.d[t] ^= b;

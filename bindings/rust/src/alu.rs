@@ -17,7 +17,8 @@ pub struct Answer {
     pub result: u32,
     /// The flags after the operation.
     pub flags: Flags,
-    /// Document 01's clock figure.
+    /// Document 01's clock figure. As a step six operations have another: long ADD, SUB, ADDX and SUBX 8 for 4, long CMP 6 for 4,
+    /// and BCLR below bit 16 8 for 10.
     pub clocks: u32,
 }
 

@@ -217,14 +217,14 @@ fn printed(print: impl FnOnce(&mut [u8]) -> usize) -> String {
 /// A listing as the program `recipe` prints it, with this width in the first line.
 ///
 /// The sum in the last line is of the figures that the steps have with all registers and flags 0. A step of a recipe has
-/// the same figure always; a shift, BSET or BCHG by a data register, or a CHK, may take other clocks in a run, and a step that is refused
+/// the same figure always; a shift, BSET, BCLR or BCHG by a data register, or a CHK, may take other clocks in a run, and a step that is refused
 /// there has 0.
 ///
 /// ```
 /// use gromavelush::{print, translate};
 ///
 /// let listing = translate(b"width\t2\nadd\t0\t1\n")?;
-/// assert_eq!(print(2, &listing), "width\t2\t2\n0\tADD\tL\tD0\tD2\n1\tADDX\tL\tD1\tD3\nclocks\t8\n");
+/// assert_eq!(print(2, &listing), "width\t2\t2\n0\tADD\tL\tD0\tD2\n1\tADDX\tL\tD1\tD3\nclocks\t16\n");
 /// # Ok::<(), gromavelush::Refused>(())
 /// ```
 pub fn print(width: u8, listing: &Listing) -> String {
@@ -267,7 +267,7 @@ pub struct RecipeRun {
 /// state.set_number(2, 1, 0x2_0000_0004)?;
 /// let ran = run_text(b"width\t2\nsub\t0\t1\n", &mut state)?;
 /// assert_eq!(state.number(2, 1), Some(5));
-/// assert_eq!((ran.x, ran.steps, ran.clocks), (false, 2, 8));
+/// assert_eq!((ran.x, ran.steps, ran.clocks), (false, 2, 16));
 /// # Ok::<(), Box<dyn std::error::Error>>(())
 /// ```
 pub fn run_text(text: &[u8], state: &mut State) -> Result<RecipeRun, Refused> {

@@ -1,6 +1,6 @@
 //! Runs of step listings: the port's ways (the C function `listing_run`; `run_array`; `run` and `run_in` over a slice; single
 //! steps by `perform_in`) against a hand-tuned Rust loop and, where every step is done, against a loop through the crate's
-//! exec functions. What they cost: `alone` and `shipped`.
+//! exec functions, to whose figures the known differences are added. What they cost: `alone` and `shipped`.
 //!
 //!   runs agree [LISTINGS]   that all answer the same, on random listings; then as many racks, by `rack` and `rack_run`
 //!   runs rack [ROUNDS]      nanoseconds a box of a rack of 64, and of as many single runs
@@ -71,7 +71,7 @@ impl Laps {
 
     fn source(self) -> u64 {
         let (listing, mut machine) = (listing_of(self.kinds, self.seed), Machine::new(FIRST));
-        let sum = self.summed(|| machine.run(&listing[..self.count], self.start, self.budget).told());
+        let sum = self.summed(|| machine.run_with_figures(&listing[..self.count], self.start, self.budget).told());
         registers(sum, &machine.state())
     }
 }

@@ -1,6 +1,7 @@
 pub mod Operations
 pub mod Laws
 pub mod Sound
+pub mod Figures
 pub mod Promises
 pub mod Leading
 pub mod Resumed

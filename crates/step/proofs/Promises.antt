@@ -37,7 +37,7 @@ use Rattle.step.specs.declared.forms.Step.{Step}
 use Rattle.step.specs.declared.steps.Outcome.{Outcome}
 use Rattle.step.specs.declared.steps.Outcome.the-variants.{Done}
 use Rattle.step.specs.declared.steps.Performed.{Performed}
-use Rattle.step.specs.Perform.{twoOf, oneOf, oneSize, rulingOf, actOf, judged, performOf}
+use Rattle.step.specs.Perform.{twoOf, oneOf, oneSize, rulingOf, figureOfTwo, actOf, judged, performOf}
 
 abbrev pub word : ℕ
 word = 2 ^ 32
@@ -299,7 +299,7 @@ kept = record {
 -- ---- a legal step is done
 
 abbrev pub figureOf : Form → ℕ
-figureOf (Two op p q) = 4
+figureOf (Two op p q) = 8
 figureOf (Address op p q) = 0
 figureOf (Quick op k p) = 0
 figureOf (One op q) = 6
@@ -307,7 +307,7 @@ figureOf (Shift op k q) = 10
 figureOf (Bit op c q) = 0
 figureOf (Chk p q) = 0
 
-two-figure : (op : TwoOp) → UsedTwo op → (s d : ℕ) (f : Flags) → twoOf op Long s d f .clocks ≡ 4
+two-figure : (op : TwoOp) → UsedTwo op → (s d : ℕ) (f : Flags) → figureOfTwo op Long (twoOf op Long s d f .clocks) ≡ 8
 two-figure Add u s d f = refl
 two-figure Sub u s d f = refl
 two-figure Cmp u s d f = absurd u

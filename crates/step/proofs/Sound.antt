@@ -46,7 +46,7 @@ use Rattle.step.specs.declared.steps.Fault.the-variants.{BadSmall, NoSuc
 use Rattle.step.specs.declared.steps.Outcome.the-variants.{Refused}
 use Rattle.step.specs.Registers.{dataOf, addressOf, mergedOf}
 use Rattle.step.specs.Perform.{Ruling, Sound, Faulty, numberOf, refusalOf, there, registerThere, countThere, within, countWithin, notByte, isWord, isLong, quickSize, oneSize, rulingOf}
-use Rattle.step.specs.Perform.{twoOf, onAddressOf, quickOf, quickAddressOf, oneOf, registerValue, countValue, outcomeOf, actOf, judged, performForm, performOf, refusedWith, trappedWith}
+use Rattle.step.specs.Perform.{twoOf, onAddressOf, quickOf, quickAddressOf, oneOf, registerValue, countValue, outcomeOf, figureIn, actOf, judged, performForm, performOf, refusedWith, trappedWith}
 use Rattle.step.proofs.Laws.{no}
 
 -- ---- the number of a ruling
@@ -212,8 +212,9 @@ answerIn s size (Shift op c t) = shiftOf op size (countValue s 64 c) (dataOf s t
 answerIn s size (Bit op c t) = bitopOf op size (countValue s 32 c) (dataOf s t) (s .flags)
 answerIn s size (Chk r t) = chkOf size (dataOf s r) (dataOf s t) (s .flags) .answer
 
--- its flags and figure are the step's
-pub act-answers : (s : State) (size : Size) (form : Form) → (actOf s size form .state .flags ≡ answerIn s size form .flags) × (actOf s size form .clocks ≡ answerIn s size form .clocks)
+-- its flags are the step's, and the step's figure comes of its figure
+pub act-answers : (s : State) (size : Size) (form : Form)
+    → (actOf s size form .state .flags ≡ answerIn s size form .flags) × (actOf s size form .clocks ≡ figureIn s size form (answerIn s size form .clocks))
 act-answers s size (Two op r t) = (refl, refl)
 act-answers s size (Address op r t) = (refl, refl)
 act-answers s size (Quick op k (Register.Data t)) = (refl, refl)
@@ -224,7 +225,7 @@ act-answers s size (Bit op c t) = (refl, refl)
 act-answers s size (Chk r t) = (refl, refl)
 
 -- what passed: the second and the third test
-passed : (a b c : Bool) → refusalOf a b c ≡ Sound → (b ≡ true) × (c ≡ true)
+pub passed : (a b c : Bool) → refusalOf a b c ≡ Sound → (b ≡ true) × (c ≡ true)
 passed false b c e = let none : _≡_ {A = ℕ} 3 0 = ap ruledWith e in absurd (omega arith)
 passed true false c e = let none : _≡_ {A = ℕ} 2 0 = ap ruledWith e in absurd (omega arith)
 passed true true false e = let none : _≡_ {A = ℕ} 1 0 = ap ruledWith e in absurd (omega arith)

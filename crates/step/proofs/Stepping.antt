@@ -14,6 +14,7 @@ use Rattle.alu.specs.declared.types.Flags.{Flags}
 use Rattle.alu.specs.declared.types.Answer.{Answer}
 use Rattle.alu.specs.declared.types.Checked.{Checked}
 use Rattle.alu.specs.Bits.{join}
+use Rattle.alu.specs.Answers.{refigured}
 use Rattle.alu.specs.Arith.{extOf}
 use Rattle.alu.proofs.Masked.{results}
 use Rattle.step.specs.declared.registers.State.{State}
@@ -34,13 +35,13 @@ use Rattle.step.specs.declared.runs.End.the-variants as End
 use Rattle.step.specs.declared.runs.Left.{Left}
 use Rattle.step.specs.declared.runs.Ran.{Ran}
 use Rattle.step.specs.Registers.{dataOf, mergedOf}
-use Rattle.step.specs.Perform.{Ruling, Sound, refusalOf, there, countThere, countWithin, notByte, toData, toAddress, outcomeOf, checkedOf, judged, performOf}
+use Rattle.step.specs.Perform.{Ruling, Sound, refusalOf, there, countThere, countWithin, notByte, toData, toAddress, outcomeOf, checkedOf, timed, judged, performOf}
 use Rattle.step.specs.Run.{ends, followed, runOf}
 use Rattle.step.specs.Lent.{held, ranIn}
 use Rattle.step.specs.Course.{cameOut, leaving, saidOf, refusedOf, countedOf, countFault, outcomeFrom}
 use Rattle.step.proofs.Laws.{no, run-end, run-step}
 use Rattle.step.proofs.Sound.{refused-free}
-use Rattle.step.proofs.Resumed.{perform-fits}
+use Rattle.step.proofs.Figures.{perform-fits}
 
 -- ---- a test fails
 
@@ -102,6 +103,14 @@ module _ (s : State) {w : Ruling} (is : w ≡ Sound) where
       → (d ≡ set (s .d) (t .0) (mergedOf size old (answer .result))) × (r ≡ saidOf How.Done answer) → old ≡ dataOf s t → answer ≡ known
       → leaving d (s .a) r ≡ judged w s (toData s size t known)
   data-step size t went old answers = written size t went answers (ap₂ (mergedOf size) old (ap (λ (x : Answer). x .result) answers))
+
+  -- the same where the step's figure is not the operation's
+  pub timed-step : (size : Size) (t : D) (figure : ℕ → ℕ) {answer known : Answer} {r : Acted} {d : List ℕ} {old : ℕ}
+      → (d ≡ set (s .d) (t .0) (mergedOf size old (answer .result))) × (r ≡ saidOf How.Done (refigured answer (figure (answer .clocks)))) → old ≡ dataOf s t → answer ≡ known
+      → leaving d (s .a) r ≡ judged w s (timed figure (toData s size t known))
+  timed-step size t figure {answer = answer} {known = known} went old answers =
+      data-step size t {answer = refigured answer (figure (answer .clocks))} {known = refigured known (figure (known .clocks))} went old
+      (ap (λ (x : Answer). refigured x (figure (x .clocks))) answers)
 
   pub address-step : (t : A) {answer known : Answer} {r : Acted} {a : List ℕ} → (a ≡ set (s .a) (t .0) (answer .result)) × (r ≡ saidOf How.Done answer)
       → answer ≡ known → leaving (s .d) a r ≡ judged w s (toAddress s t known)

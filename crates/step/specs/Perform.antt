@@ -1,8 +1,8 @@
 -- One step: it is refused, or it reads its operands, and writes a register and the flags (CHK: the flags alone). Document 01, "Steps and runs", its
--- forms table and its refusal numbers. The operations' answers are those of the crate alu. s is the state before; of a form, r is the source register
+-- forms table and its refusal numbers; clock figures by document 02, item 3. The operations' answers are those of the crate alu. s is the state before; of a form, r is the source register
 -- and t the destination. Assumes nothing.
 use Prim.Native.Nat.{ℕ, _%_}
-use mathlib.Core.Bool.{Bool, true, false, _&&_}
+use mathlib.Core.Bool.{Bool, true, false, cond, _&&_}
 use lib.Dec.{ltb, leb}
 use Rattle.alu.specs.declared.types.Size.{Size}
 use Rattle.alu.specs.declared.types.Size.the-variants.{Byte, Word, Long}
@@ -11,6 +11,9 @@ use Rattle.alu.specs.declared.types.Answer.{Answer}
 use Rattle.alu.specs.declared.types.Check.{Check}
 use Rattle.alu.specs.declared.types.Check.the-variants.{Pass, Over, Short, Below}
 use Rattle.alu.specs.declared.types.Checked.{Checked}
+use Rattle.alu.specs.declared.bit_manip.BitOp.{BitOp}
+use Rattle.alu.specs.declared.bit_manip.BitOp.the-variants.{Btst, Bset, Bclr, Bchg}
+use Rattle.alu.specs.Answers.{figure}
 use Rattle.alu.specs.Arith.{addOf, addxOf, subOf, subxOf, cmpOf, negOf, negxOf, addqOf, subqOf, addqAddressOf, subqAddressOf, addaOf, subaOf, cmpaOf, clrOf, notOf, extOf, chkOf}
 use Rattle.alu.specs.Shifts.{shiftOf}
 use Rattle.alu.specs.Bitops.{bitopOf}
@@ -165,8 +168,7 @@ abbrev pub countValue : State → (modulus : ℕ) → Count → ℕ
 countValue s modulus (Count.Small k) = k
 countValue s modulus (Count.Data r) = dataOf s r % modulus
 
--- An answer's flags go to the state s, and its figure is the step's. (A step that is sound is never refused by its operation: `never-refused` of
--- proofs/Sound)
+-- An answer's flags go to the state s. (A step that is sound is never refused by its operation: `never-refused` of proofs/Sound)
 abbrev pub concluded : Outcome → State → Answer → Performed
 concluded outcome s answer = record { outcome = outcome; state = putFlags s (answer .flags); clocks = answer .clocks }
 
@@ -188,16 +190,48 @@ outcomeOf Below = Trapped TrapBelow
 abbrev pub checkedOf : State → Checked → Performed
 checkedOf s c = concluded (outcomeOf (c .check)) s (c .answer)
 
--- all operands are read in the state s, before anything is written
+-- all operands are read in the state s, before anything is written. The figure is the operation's
+abbrev pub operatedOf : State → Size → Form → Performed
+operatedOf s size (Two op r t) = toData s size t (twoOf op size (dataOf s r) (dataOf s t) (s .flags))
+operatedOf s size (Address op r t) = toAddress s t (onAddressOf op size (registerValue s r) (addressOf s t) (s .flags))
+operatedOf s size (Quick op k (Register.Data t)) = toData s size t (quickOf op size k (dataOf s t) (s .flags))
+operatedOf s size (Quick op k (Register.Address t)) = toAddress s t (quickAddressOf op size k (addressOf s t) (s .flags))
+operatedOf s size (One op t) = toData s size t (oneOf op size (dataOf s t) (s .flags))
+operatedOf s size (Shift op c t) = toData s size t (shiftOf op size (countValue s 64 c) (dataOf s t) (s .flags))
+operatedOf s size (Bit op c t) = toData s size t (bitopOf op size (countValue s 32 c) (dataOf s t) (s .flags))
+operatedOf s size (Chk r t) = checkedOf s (chkOf size (dataOf s r) (dataOf s t) (s .flags))
+
+-- ---- its clock figure
+
+-- The operation's, but for six (document 02, item 3): 8 for long ADD, SUB, ADDX and SUBX and 6 for long CMP, where an operation has 4; 8 for BCLR below
+-- bit 16, where it has 10
+abbrev pub figureOfTwo : TwoOp → Size → (operation : ℕ) → ℕ
+figureOfTwo Add size operation = figure size operation 8
+figureOfTwo Sub size operation = figure size operation 8
+figureOfTwo Cmp size operation = figure size operation 6
+figureOfTwo Addx size operation = figure size operation 8
+figureOfTwo Subx size operation = figure size operation 8
+
+abbrev pub figureOfBit : BitOp → (number operation : ℕ) → ℕ
+figureOfBit Btst number operation = operation
+figureOfBit Bset number operation = operation
+figureOfBit Bclr number operation = cond (ltb number 16) 8 operation
+figureOfBit Bchg number operation = operation
+
+abbrev pub figureIn : State → Size → Form → (operation : ℕ) → ℕ
+figureIn s size (Two op r t) operation = figureOfTwo op size operation
+figureIn s size (Address op r t) operation = operation
+figureIn s size (Quick op k t) operation = operation
+figureIn s size (One op t) operation = operation
+figureIn s size (Shift op c t) operation = operation
+figureIn s size (Bit op c t) operation = figureOfBit op (countValue s 32 c) operation
+figureIn s size (Chk r t) operation = operation
+
+abbrev pub timed : (ℕ → ℕ) → Performed → Performed
+timed clocks p = record { outcome = p .outcome; state = p .state; clocks = clocks (p .clocks) }
+
 abbrev pub actOf : State → Size → Form → Performed
-actOf s size (Two op r t) = toData s size t (twoOf op size (dataOf s r) (dataOf s t) (s .flags))
-actOf s size (Address op r t) = toAddress s t (onAddressOf op size (registerValue s r) (addressOf s t) (s .flags))
-actOf s size (Quick op k (Register.Data t)) = toData s size t (quickOf op size k (dataOf s t) (s .flags))
-actOf s size (Quick op k (Register.Address t)) = toAddress s t (quickAddressOf op size k (addressOf s t) (s .flags))
-actOf s size (One op t) = toData s size t (oneOf op size (dataOf s t) (s .flags))
-actOf s size (Shift op c t) = toData s size t (shiftOf op size (countValue s 64 c) (dataOf s t) (s .flags))
-actOf s size (Bit op c t) = toData s size t (bitopOf op size (countValue s 32 c) (dataOf s t) (s .flags))
-actOf s size (Chk r t) = checkedOf s (chkOf size (dataOf s r) (dataOf s t) (s .flags))
+actOf s size form = timed (figureIn s size form) (operatedOf s size form)
 
 -- ---- the step
 

@@ -1,10 +1,11 @@
-// One step: on registers that are lent, and by value. In a contract `within` is the definition of specs/, not the
-// function here.
+// One step: on registers that are lent, and by value. In a contract `within` and `figure` are the definitions of specs/,
+// not the functions.
 ghost use mathlib.Core.Path.{_≡_};
 ghost use mathlib.Core.Bool.{_&&_};
 ghost use mathlib.Core.List.{List};
 ghost use lib.ListN.{set};
 ghost use Prim.Native.Nat.{ℕ};
+ghost use Rattle.alu.specs.Answers.{refigured, figure};
 ghost use Rattle.alu.specs.Shifts.{shiftOf};
 ghost use Rattle.alu.specs.Bitops.{bitopOf};
 ghost use Rattle.step.specs.declared.forms.Form.the-variants as Form;
@@ -12,8 +13,8 @@ ghost use Rattle.step.specs.declared.forms.Register.the-variants as Regi
 ghost use Rattle.step.specs.declared.steps.Came.the-variants as How;
 ghost use Rattle.step.specs.Registers.{mergedOf};
 ghost use Rattle.step.specs.Perform.{numberOf, classOf, registerThere, countThere, within};
-ghost use Rattle.step.specs.Perform.{notByte, isWord, isLong, twoOf, onAddressOf, quickOf, quickAddressOf};
-ghost use Rattle.step.specs.Perform.{registerValue, outcomeOf, performForm, performOf};
+ghost use Rattle.step.specs.Perform.{notByte, isWord, isLong, onAddressOf, quickOf, quickAddressOf};
+ghost use Rattle.step.specs.Perform.{registerValue, outcomeOf, figureOfBit, performForm, performOf};
 ghost use Rattle.step.specs.Lent.{held};
 ghost use Rattle.step.specs.Course.{cameOut, isDone, leaving, saidOf, refusedOf, countedOf, countFault, outcomeFrom};
 use super::forms::AddressOp;
@@ -68,6 +69,8 @@ use alu::types::Answer;
 use alu::types::Check;
 use alu::types::Flags;
 use alu::types::Size;
+use alu::types::accepted;
+use alu::types::figure;
 
 // Why a step, or a run, is refused: document 01's numbers 1, 2, 3 and 10.
 pub enum Fault {
@@ -205,18 +208,6 @@ fn within(least: u8, most: u8, k: u8) -> bool
     both(least <= k, k <= most)
 }
 
-fn two(op: TwoOp, size: Size, src: u32, dst: u32, flags: Flags) -> Answer
-    ensures { λ r. ⌜ r ≡ twoOf op size src dst flags ⌝ }
-{
-    match op {
-        TwoOp::Add => exec_add(size, src, dst, flags),
-        TwoOp::Sub => exec_sub(size, src, dst, flags),
-        TwoOp::Cmp => exec_cmp(size, src, dst, flags),
-        TwoOp::Addx => exec_addx(size, src, dst, flags),
-        TwoOp::Subx => exec_subx(size, src, dst, flags),
-    }
-}
-
 fn on_address(op: AddressOp, size: Size, src: u32, dst: u32, flags: Flags) -> Answer
     ensures { λ r. ⌜ r ≡ onAddressOf op size src dst flags ⌝ }
 {
@@ -268,6 +259,18 @@ fn bit(op: BitOp, size: Size, number: u32, dst: u32, flags: Flags) -> Answer
         BitOp::Bset => exec_bset(size, number, dst, flags),
         BitOp::Bclr => exec_bclr(size, number, dst, flags),
         BitOp::Bchg => exec_bchg(size, number, dst, flags),
+    }
+}
+
+// A step's figure is its operation's, but for six (document 02, item 3): BCLR below bit 16, and those that `to_long` has.
+fn figure_of_bit(op: BitOp, number: u32, operation: u32) -> u32
+    ensures { λ r. ⌜ r ≡ figureOfBit op number operation ⌝ }
+{
+    match op {
+        BitOp::Btst => operation,
+        BitOp::Bset => operation,
+        BitOp::Bclr => if number < 16 { 8 } else { operation },
+        BitOp::Bchg => operation,
     }
 }
 
@@ -358,8 +361,7 @@ pub(crate) fn is_done(came: Came) -> bool
     }
 }
 
-// What a step says once the operation has answered. Here alone the operation's figure becomes the step's. The flags go
-// over one by one, as in alu::types::accepted.
+// What a step says once the operation has answered. The flags go over one by one, as in alu::types::accepted.
 fn said(came: Came, answer: Answer) -> Acted
     ensures { λ r. ⌜ r ≡ saidOf came answer ⌝ }
 {
@@ -401,6 +403,15 @@ fn to_data(d: &mut [u32; 8], size: Size, t: D, old: u32, answer: Answer) -> Acte
     said(Came::Done, answer)
 }
 
+// The same, with another figure than the operation's where the step is long: ADD, SUB, CMP, ADDX, SUBX.
+fn to_long(d: &mut [u32; 8], size: Size, t: D, old: u32, answer: Answer, long: u32) -> Acted
+    ensures { λ r. ⌜ (now (d .exit) ≡ set (now (d .entry)) (t .0) (mergedOf size old (answer .result))) × (r ≡ saidOf How.Done (refigured answer (figure size (answer .clocks) long))) ⌝ }
+{
+    let clocks = figure(size, answer.clocks, long);
+    let timed = accepted(answer.result, answer.flags, clocks);
+    to_data(d, size, t, old, timed)
+}
+
 // The result goes whole to a register.
 fn to_whole(registers: &mut [u32; 8], t: u8, answer: Answer) -> Acted
     ensures { λ r. ⌜ (now (registers .exit) ≡ set (now (registers .entry)) t (answer .result)) × (r ≡ saidOf How.Done answer) ⌝ }
@@ -416,7 +427,13 @@ fn step_two(d: &mut [u32; 8], flags: Flags, size: Size, op: TwoOp, s: D, t: D) -
     if both(s.0 < 8, t.0 < 8) {
         let src = read(d, s.0);
         let dst = read(d, t.0);
-        to_data(d, size, t, dst, two(op, size, src, dst, flags))
+        match op {
+            TwoOp::Add => to_long(d, size, t, dst, exec_add(size, src, dst, flags), 8),
+            TwoOp::Sub => to_long(d, size, t, dst, exec_sub(size, src, dst, flags), 8),
+            TwoOp::Cmp => to_long(d, size, t, dst, exec_cmp(size, src, dst, flags), 6),
+            TwoOp::Addx => to_long(d, size, t, dst, exec_addx(size, src, dst, flags), 8),
+            TwoOp::Subx => to_long(d, size, t, dst, exec_subx(size, src, dst, flags), 8),
+        }
     } else {
         refused(Came::NoSuchRegister, flags)
     }
@@ -532,7 +549,10 @@ fn step_bit(d: &mut [u32; 8], flags: Flags, size: Size, op: BitOp, c: Count, t: 
             let number = bit_number(d, c);
             if number.fits {
                 let dst = read(d, t.0);
-                to_data(d, size, t, dst, bit(op, size, number.value, dst, flags))
+                let answer = bit(op, size, number.value, dst, flags);
+                let clocks = figure_of_bit(op, number.value, answer.clocks);
+                let timed = accepted(answer.result, answer.flags, clocks);
+                to_data(d, size, t, dst, timed)
             } else {
                 refused(count_fault(c), flags)
             }

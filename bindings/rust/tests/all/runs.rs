@@ -85,20 +85,53 @@ fn halted_after_every_step_and_continued() {
     }
 }
 
-/// One step at a time, each by the single operation that it names.
+/// A single operation with source and destination.
+type Exec = fn(Size, u32, u32, Flags) -> Result<Answer, Refusal>;
+
+/// The step does what its operation answers, with a figure of its own.
+fn done(before: State, step: Step, answer: Answer, clocks: u32) {
+    let mut state = before;
+    let ran = run(&Listing::new(&[step]).expect("a step"), &mut state, 0, 1);
+    let mask = u32::MAX >> (32 - step.size.bits());
+    assert_eq!(state.d[1], before.d[1] & !mask | answer.result & mask);
+    assert_eq!((state.flags, ran.clocks), (answer.flags, clocks.into()));
+}
+
+/// With the figure of the long step where the operation has 4.
+const TWOS: [(TwoOp, Exec, u32); 5] = [
+    (TwoOp::Add, exec_add, 8),
+    (TwoOp::Sub, exec_sub, 8),
+    (TwoOp::Cmp, exec_cmp, 6),
+    (TwoOp::Addx, exec_addx, 8),
+    (TwoOp::Subx, exec_subx, 8),
+];
+
 #[test]
 fn a_step_is_its_operation() {
     let mut random = Random(7);
-    for _ in 0..2_000 {
+    for _ in 0..5_000 {
         let before = random.state();
-        let size = random.pick(&Size::ALL);
-        let listing =
-            Listing::new(&[Step { size, form: Form::Two(TwoOp::Addx, D(0), D(1)) }]).expect("a step");
-        let mut state = before;
-        let ran = run(&listing, &mut state, 0, 1);
-        let answer = exec_addx(size, before.d[0], before.d[1], before.flags).expect("it has every size");
-        let mask = u32::MAX >> (32 - size.bits());
-        assert_eq!(state.d[1], before.d[1] & !mask | answer.result);
-        assert_eq!((state.flags, ran.clocks), (answer.flags, answer.clocks.into()));
+        let (size, (op, exec, long)) = (random.pick(&Size::ALL), random.pick(&TWOS));
+        let answer = exec(size, before.d[0], before.d[1], before.flags).expect("it has every size");
+        assert_eq!(answer.clocks, 4);
+        let step = Step { size, form: Form::Two(op, D(0), D(1)) };
+        done(before, step, answer, if size == Size::Long { long } else { 4 });
+    }
+}
+
+/// By a small number and by a register, at each bit.
+#[test]
+fn bclr_counts_by_its_bit() {
+    let mut random = Random(7);
+    for number in 0..64 {
+        let mut before = random.state();
+        before.d[0] = before.d[0] / 64 * 64 + number;
+        let answer = exec_bclr(Size::Long, number, before.d[1], before.flags).expect("it is long");
+        assert_eq!(answer.clocks, 10);
+        let counts = [Some(Count::Data(D(0))), (number < 32).then_some(Count::Small(number as u8))];
+        for count in counts.into_iter().flatten() {
+            let step = Step { size: Size::Long, form: Form::Bit(BitOp::Bclr, count, D(1)) };
+            done(before, step, answer, if number % 32 < 16 { 8 } else { 10 });
+        }
     }
 }

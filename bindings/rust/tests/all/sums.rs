@@ -58,7 +58,7 @@ fn sum_12_the_recipe() {
     let mut state = State { d: [1, 0, 0xFFFF_FFFF, 0, 0, 0, 0, 0], ..State::default() };
     let ran = run_text(crate::common::EXAMPLE, &mut state).expect("it is a recipe");
     assert_eq!(state.d, [1, 0, 0, 0xFFFF_FFFF, 0, 0, 0, 0]);
-    assert_eq!((ran.x, ran.steps, ran.clocks), (true, 4, 20));
+    assert_eq!((ran.x, ran.steps, ran.clocks), (true, 4, 28));
     assert_eq!(ran.flags.map(|flags| flags.to_string()), Some("XN--C".into()));
 }
 

@@ -61,7 +61,7 @@ fn steps_print_as_the_library_prints_them() {
 
 #[test]
 fn document_01_s_example_is_printed_exactly() {
-    let should = "width\t2\t4\n0\tADD\tL\tD0\tD2\n1\tADDX\tL\tD1\tD3\n2\tNEG\tL\t-\tD2\n3\tNEGX\tL\t-\tD3\nclocks\t20\n";
+    let should = "width\t2\t4\n0\tADD\tL\tD0\tD2\n1\tADDX\tL\tD1\tD3\n2\tNEG\tL\t-\tD2\n3\tNEGX\tL\t-\tD3\nclocks\t28\n";
     assert_eq!(answer(EXAMPLE), should);
     let listing = translate(EXAMPLE).expect("it is sound");
     assert_eq!(print(2, &listing), should);

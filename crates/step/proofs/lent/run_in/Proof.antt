@@ -61,7 +61,7 @@ use Rattle.step.specs.Lent.{held, ranIn}
 use Rattle.step.specs.Course.{stopOf, beginOf, Advanced, leftOf, Ready, Halts}
 use Rattle.step.proofs.Walks.{rest}
 use Rattle.step.proofs.Lending.{Regs, arr, ref, d-val, ref-own, Lends, lends, comes-back}
-use Rattle.step.proofs.Resumed.{perform-fits}
+use Rattle.step.proofs.Figures.{perform-fits}
 use Rattle.step.proofs.Running.{nop, sober, answerOf, begin-answer, turn-answer, stopped-answer, stop-few, Runs, begin-runs, turn-runs, leftIn, turn-less}
 use Rattle.step.proofs.forms.Step as T
 use Rattle.step.proofs.forms.Step.Laws as T′

@@ -11,9 +11,10 @@ use Rattle.step.proofs.steps.step_bit.Tie as tie
 
 returns : tie.Need-returns
 returns c a =
-    let start = c .before .before .before .before .before .before .before .before .before .before .before .before .before in
+    let start = c .before .before .before .before .before .before .before .before .before .before .before .before .before .before .before in
     let s = held (now (start .args .d)) a (start .args .flags) in
-    data-step s (count-sound 0 31 (lt-ltb _ _ (c .before .before .before .before .before .before .before .before .before .before .before .if1 .taken)) (sym (c .before .before .before .before .before .before .before .before .before .before .is-long .ensures) ∙ c .before .before .before .before .before .before .before .before .before .if2 .taken) (start .args .c) (rw (c .before .before .before .before .before .before .before .bit-number .ensures a (start .args .flags)) at (c .before .before .before .before .before .before .if3 .taken))) (start .args .size) (start .args .t) (c .to-data .ensures) (c .before .before .before .read .ensures) (rw (c .before .before .before .read .ensures, c .before .before .before .before .before .before .before .bit-number .ensures a (start .args .flags)) at (c .before .bit .ensures))
+    let number = c .before .before .before .before .before .before .before .before .before .bit-number .ensures a (start .args .flags) in
+    data-step s (count-sound 0 31 (lt-ltb _ _ (c .before .before .before .before .before .before .before .before .before .before .before .before .before .if1 .taken)) (sym (c .before .before .before .before .before .before .before .before .before .before .before .before .is-long .ensures) ∙ c .before .before .before .before .before .before .before .before .before .before .before .if2 .taken) (start .args .c) (rw number at (c .before .before .before .before .before .before .before .before .if3 .taken))) (start .args .size) (start .args .t) (c .to-data .ensures) (c .before .before .before .before .before .read .ensures) (rw (c .before .before .before .figure-of-bit .ensures, c .before .before .before .before .bit .ensures, c .before .before .before .before .before .read .ensures, number) at (c .before .before .accepted .ensures))
 
 returns-2 : tie.Need-returns-2
 returns-2 c a =
@@ -44,4 +45,4 @@ step-bit-spec =
     tie.close
     (tie.spec
     (search needs) (search needs) (search needs) (search needs) (search needs) (search needs) (search needs) (search needs) (search needs)
-    (search needs) (search needs) returns returns-2 returns-3 returns-4 returns-5)
+    (search needs) (search needs) (search needs) (search needs) returns returns-2 returns-3 returns-4 returns-5)
