@@ -193,7 +193,7 @@ static void run_one(const uint64_t *listing, size_t length, size_t start, uint32
 
 static void test_runs(void) {
     uint64_t listing[MOST] = {GRO_STEP(GRO_ADD, GRO_LONG, GRO_DATA, 0, 2), GRO_STEP(GRO_CHK, GRO_WORD, GRO_DATA, 3, 0)};
-    const uint64_t budget[GRO_TOLD] = {GRO_BUDGET, 0, 0, 1, 1, 4}, trapped[GRO_TOLD] = {GRO_TRAPPED, 1, 1, 2, 2, 12};
+    const uint64_t budget[GRO_TOLD] = {GRO_BUDGET, 0, 0, 1, 1, 8}, trapped[GRO_TOLD] = {GRO_TRAPPED, 1, 1, 2, 2, 16};
     const uint64_t none[GRO_TOLD] = {GRO_BUDGET}, past[GRO_TOLD] = {GRO_REFUSED, 10, GRO_SLOTS + 1, GRO_SLOTS + 1};
     const uint64_t refused[GRO_TOLD] = {GRO_REFUSED, 2, GRO_SLOTS - 1, GRO_SLOTS - 1}, end[GRO_TOLD] = {GRO_FINISHED, 0, 0, GRO_SLOTS};
     listing[GRO_SLOTS - 1] = GRO_STEP(GRO_CLR, GRO_LONG, GRO_SMALL, 1, 2);

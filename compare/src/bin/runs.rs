@@ -71,7 +71,8 @@ impl Laps {
 
     fn source(self) -> u64 {
         let (listing, mut machine) = (listing_of(self.kinds, self.seed), Machine::new(FIRST));
-        let sum = self.summed(|| machine.run_with_figures(&listing[..self.count], self.start, self.budget).told());
+        let sum =
+            self.summed(|| machine.run_with_figures(&listing[..self.count], self.start, self.budget).told());
         registers(sum, &machine.state())
     }
 }
