@@ -1,4 +1,4 @@
-"""Document 01's recipes, with item 1 of document 02, read in Python, for tools/recipe-vectors, tools/bench-cases and tools/hostile. It uses nothing
+"""Document 01's recipes, with items 1 and 3 of document 02, read in Python, for tools/recipe-vectors, tools/bench-cases and tools/hostile. It uses nothing
 of the product.
 
 A step is done by arithmetic on words, what a line means is told of whole numbers: neither uses the other's rules, so that one can be held against

@@ -61,8 +61,8 @@ enum gro_operation {
  * One operation on values. src is the source, small number, count, bit number or CHK's bound; dst all 32 bits of the destination.
  * Bits of the answer: 0 to 31 the result, 32 to 36 the flags, 40 to 47 the clock figure, 48 and 49 the refusal number (0: accepted),
  * 52 and 53 CHK's class (0 Pass, 1 Over, 2 Short, 3 Below); all others are 0. A number that names no operation or no size is refused
- * with 2. Refused, result, figure and class are 0 and the flags as they came. The figure is document 01's; as a step six operations
- * have another: long ADD, SUB, ADDX and SUBX 8 for 4, long CMP 6 for 4, and BCLR below bit 16 8 for 10.
+ * with 2. Refused, result, figure and class are 0 and the flags as they came. The figure is document 01's. As a step six
+ * operations have another: long ADD, SUB, ADDX and SUBX 8 and long CMP 6, in place of 4; BCLR below bit 16 8, in place of 10.
  */
 uint64_t alu_call(uint8_t operation, uint8_t size, uint32_t src, uint32_t dst, uint8_t flags);
 

@@ -98,7 +98,7 @@ impl Machine {
     }
 
     /// What a step's figure has above the one that the crate returns: document 02, item 3.
-    fn above(&self, step: &Step) -> i64 {
+    fn above(&self, step: &Step) -> i32 {
         match (step.form, step.size) {
             (Form::Two(Two::Cmp, ..), Size::Long) => 2,
             (Form::Two(..), Size::Long) => 4,
@@ -158,9 +158,15 @@ impl Machine {
         }
     }
 
-    /// A run of steps that are all done, with the crate's figures. It becomes part of its caller, as `tuned::run` does.
+    /// A run of steps that are all done; `above` is added to the figure of each.
     #[inline(always)]
-    pub fn run(&mut self, listing: &[Step], start: usize, budget: u32) -> Ran {
+    fn run_adding(
+        &mut self,
+        listing: &[Step],
+        start: usize,
+        budget: u32,
+        above: fn(&Machine, &Step) -> i32,
+    ) -> Ran {
         let (mut next, mut steps, mut clocks) = (start, 0u32, 0u64);
         loop {
             let Some(step) = listing.get(next) else {
@@ -169,22 +175,21 @@ impl Machine {
             if steps == budget {
                 return Ran { end: End::Budget, next, steps, clocks };
             }
-            clocks += self.step(step) as u64;
+            let above = above(self, step);
+            clocks += (self.step(step) + above) as u64;
             next += 1;
             steps += 1;
         }
     }
 
-    /// The same, step by step, with the figures of steps.
+    /// With the figures that the crate returns. It becomes part of its caller, as `tuned::run` does.
+    #[inline(always)]
+    pub fn run(&mut self, listing: &[Step], start: usize, budget: u32) -> Ran {
+        self.run_adding(listing, start, budget, |_, _| 0)
+    }
+
+    /// With the figures of steps.
     pub fn run_with_figures(&mut self, listing: &[Step], start: usize, budget: u32) -> Ran {
-        let mut ran = self.run(listing, start, 0);
-        for _ in 0..budget {
-            let Some(step) = listing.get(ran.next) else { break };
-            let above = self.above(step);
-            let Ran { end, next, steps, clocks } = self.run(listing, ran.next, 1);
-            let clocks = (ran.clocks + clocks).strict_add_signed(above);
-            ran = Ran { end, next, steps: ran.steps + steps, clocks };
-        }
-        ran
+        self.run_adding(listing, start, budget, Machine::above)
     }
 }

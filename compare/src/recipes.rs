@@ -1,5 +1,5 @@
-//! A reading of document 01's recipes, with item 1 of document 02: from a text to a recipe, from that to a listing, from
-//! that to what is printed. It is written from the documents alone, with lists and strings. Of the port it has the layout
+//! A reading of document 01's recipes, with items 1 and 3 of document 02: from a text to a recipe, from that to a listing,
+//! from that to what is printed. It is written from the documents alone, with lists and strings. Of the port it has the layout
 //! of the records, as in `steps`, and what the reader fills unused ones with.
 
 use crate::steps::{Count, Form, One, Shift, Size, Step, Two};

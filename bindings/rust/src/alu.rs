@@ -17,8 +17,8 @@ pub struct Answer {
     pub result: u32,
     /// The flags after the operation.
     pub flags: Flags,
-    /// Document 01's clock figure. As a step six operations have another: long ADD, SUB, ADDX and SUBX 8 for 4, long CMP 6 for 4,
-    /// and BCLR below bit 16 8 for 10.
+    /// Document 01's clock figure. As a step six operations have another: long ADD, SUB, ADDX and SUBX 8 and long CMP 6, in
+    /// place of 4; BCLR below bit 16 8, in place of 10.
     pub clocks: u32,
 }
 

@@ -102,7 +102,7 @@ stepsMax = 256
 -- ---- clock figures
 
 -- A step's figure, as the step machine gives it from cleared registers and flags. A step of an accepted recipe's listing has this figure in every state
--- (`listing-legal`, `figure-same` of proofs/Legal): 4 for ADD, ADDX, SUB and SUBX, 6 for CLR, NEG, NEGX and NOT, 10 for a shift. Of any other step it is
+-- (`listing-legal`, `figure-same` of proofs/Legal): 8 for ADD, ADDX, SUB and SUBX, 6 for CLR, NEG, NEGX and NOT, 10 for a shift. Of any other step it is
 -- the figure at rest: 0 where it is refused, a register's count as 0
 abbrev pub atRest : State
 atRest = record { d = replicate 8 0; a = replicate 8 0; flags = record { x = false; n = false; z = false; v = false; c = false } }

@@ -53,7 +53,7 @@ above size (Shift op c t) = 0
 above size (Bit op c t) = 0
 above size (Chk r t) = 0
 
--- and what it lacks: BCLR below bit 16 2
+-- and what it lacks: of BCLR below bit 16 it is 2
 abbrev pub lacking : BitOp → (number : ℕ) → ℕ
 lacking Btst number = 0
 lacking Bset number = 0

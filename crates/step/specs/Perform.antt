@@ -1,6 +1,6 @@
 -- One step: it is refused, or it reads its operands, and writes a register and the flags (CHK: the flags alone). Document 01, "Steps and runs", its
--- forms table and its refusal numbers; clock figures by document 02, item 3. The operations' answers are those of the crate alu. s is the state before; of a form, r is the source register
--- and t the destination. Assumes nothing.
+-- forms table and its refusal numbers; six clock figures by document 02, item 3. The operations' answers are those of the crate alu. s is the state
+-- before; of a form, r is the source register and t the destination. Assumes nothing.
 use Prim.Native.Nat.{ℕ, _%_}
 use mathlib.Core.Bool.{Bool, true, false, cond, _&&_}
 use lib.Dec.{ltb, leb}
@@ -204,7 +204,7 @@ operatedOf s size (Chk r t) = checkedOf s (chkOf size (dataOf s r) (dataOf s t) 
 -- ---- its clock figure
 
 -- The operation's, but for six (document 02, item 3): 8 for long ADD, SUB, ADDX and SUBX and 6 for long CMP, where an operation has 4; 8 for BCLR below
--- bit 16, where it has 10
+-- bit 16, where it has 10. (`figure size a b` is a for byte and word, b for long)
 abbrev pub figureOfTwo : TwoOp → Size → (operation : ℕ) → ℕ
 figureOfTwo Add size operation = figure size operation 8
 figureOfTwo Sub size operation = figure size operation 8
@@ -218,6 +218,7 @@ figureOfBit Bset number operation = operation
 figureOfBit Bclr number operation = cond (ltb number 16) 8 operation
 figureOfBit Bchg number operation = operation
 
+-- of a step on the state s, from its operation's
 abbrev pub figureIn : State → Size → Form → (operation : ℕ) → ℕ
 figureIn s size (Two op r t) operation = figureOfTwo op size operation
 figureIn s size (Address op r t) operation = operation
@@ -227,6 +228,7 @@ figureIn s size (Shift op c t) operation = operation
 figureIn s size (Bit op c t) operation = figureOfBit op (countValue s 32 c) operation
 figureIn s size (Chk r t) operation = operation
 
+-- what the operation did, with the figure of the step
 abbrev pub timed : (ℕ → ℕ) → Performed → Performed
 timed clocks p = record { outcome = p .outcome; state = p .state; clocks = clocks (p .clocks) }
 

@@ -41,7 +41,12 @@ fn any_word_is_a_steps_or_an_error() {
     assert_eq!(Step::try_from(add.word() | 1 << 40), Err(NoStep(add.word() | 1 << 40)));
 }
 
-/// The library prints each step as `Display` does.
+/// The clocks of a step by itself, with all registers and flags 0.
+fn at_rest(step: &Step) -> u64 {
+    run(&Listing::new(&[*step]).expect("a step"), &mut State::default(), 0, 1).clocks
+}
+
+/// The library prints each step as `Display` does, and the sum of what they count at rest.
 #[test]
 fn steps_print_as_the_library_prints_them() {
     let mut random = Random(4);
@@ -55,8 +60,16 @@ fn steps_print_as_the_library_prints_them() {
         for (place, step) in steps.iter().enumerate() {
             assert_eq!(lines[1 + place], format!("{place}\t{step}"));
         }
-        assert!(lines[4].starts_with("clocks\t") && lines.len() == 5);
+        assert_eq!(lines[4..], [format!("clocks\t{}", steps.iter().map(at_rest).sum::<u64>())]);
     }
+}
+
+/// A bit's number from a register is 0 at rest.
+#[test]
+fn bclr_by_a_register_is_printed_with_8() {
+    let step = Step { size: Size::Long, form: Form::Bit(BitOp::Bclr, Count::Data(D(1)), D(0)) };
+    let listing = Listing::new(&[step]).expect("a step");
+    assert_eq!(print(1, &listing), "width\t1\t1\n0\tBCLR\tL\tD1\tD0\nclocks\t8\n");
 }
 
 #[test]
