@@ -228,9 +228,9 @@ figureIn s size (Shift op c t) operation = operation
 figureIn s size (Bit op c t) operation = figureOfBit op (countValue s 32 c) operation
 figureIn s size (Chk r t) operation = operation
 
--- what the operation did, with the figure of the step
-abbrev pub timed : (ℕ → ℕ) → Performed → Performed
-timed clocks p = record { outcome = p .outcome; state = p .state; clocks = clocks (p .clocks) }
+-- what the operation did, with the figure that it has in the step
+abbrev pub timed : (inStep : ℕ → ℕ) → Performed → Performed
+timed inStep p = record { outcome = p .outcome; state = p .state; clocks = inStep (p .clocks) }
 
 abbrev pub actOf : State → Size → Form → Performed
 actOf s size form = timed (figureIn s size form) (operatedOf s size form)

@@ -262,7 +262,7 @@ fn bit(op: BitOp, size: Size, number: u32, dst: u32, flags: Flags) -> Answer
     }
 }
 
-// A step's figure is its operation's, but for six (document 02, item 3): BCLR below bit 16, and those that `to_long` has.
+// A step's figure is its operation's, but for six (document 02, item 3): BCLR below bit 16, and those that `to_data_timed` has.
 fn figure_of_bit(op: BitOp, number: u32, operation: u32) -> u32
     ensures { λ r. ⌜ r ≡ figureOfBit op number operation ⌝ }
 {
@@ -403,8 +403,8 @@ fn to_data(d: &mut [u32; 8], size: Size, t: D, old: u32, answer: Answer) -> Acte
     said(Came::Done, answer)
 }
 
-// The same, with another figure than the operation's where the step is long: ADD, SUB, CMP, ADDX, SUBX.
-fn to_long(d: &mut [u32; 8], size: Size, t: D, old: u32, answer: Answer, long: u32) -> Acted
+// The same where a long step has a figure of its own, `long`: ADD, SUB, CMP, ADDX, SUBX.
+fn to_data_timed(d: &mut [u32; 8], size: Size, t: D, old: u32, answer: Answer, long: u32) -> Acted
     ensures { λ r. ⌜ (now (d .exit) ≡ set (now (d .entry)) (t .0) (mergedOf size old (answer .result))) × (r ≡ saidOf How.Done (refigured answer (figure size (answer .clocks) long))) ⌝ }
 {
     let clocks = figure(size, answer.clocks, long);
@@ -428,11 +428,11 @@ fn step_two(d: &mut [u32; 8], flags: Flags, size: Size, op: TwoOp, s: D, t: D) -
         let src = read(d, s.0);
         let dst = read(d, t.0);
         match op {
-            TwoOp::Add => to_long(d, size, t, dst, exec_add(size, src, dst, flags), 8),
-            TwoOp::Sub => to_long(d, size, t, dst, exec_sub(size, src, dst, flags), 8),
-            TwoOp::Cmp => to_long(d, size, t, dst, exec_cmp(size, src, dst, flags), 6),
-            TwoOp::Addx => to_long(d, size, t, dst, exec_addx(size, src, dst, flags), 8),
-            TwoOp::Subx => to_long(d, size, t, dst, exec_subx(size, src, dst, flags), 8),
+            TwoOp::Add => to_data_timed(d, size, t, dst, exec_add(size, src, dst, flags), 8),
+            TwoOp::Sub => to_data_timed(d, size, t, dst, exec_sub(size, src, dst, flags), 8),
+            TwoOp::Cmp => to_data_timed(d, size, t, dst, exec_cmp(size, src, dst, flags), 6),
+            TwoOp::Addx => to_data_timed(d, size, t, dst, exec_addx(size, src, dst, flags), 8),
+            TwoOp::Subx => to_data_timed(d, size, t, dst, exec_subx(size, src, dst, flags), 8),
         }
     } else {
         refused(Came::NoSuchRegister, flags)

@@ -12,31 +12,31 @@ returns : tie.Need-returns
 returns c a =
     let start = c .before .before .before .before .before .before .before .before .before .before .before .before .before .before .before in
     let s = held (now (start .args .d)) a (start .args .flags) in
-    rw (c .before .before .before .enum-told .given .1) (timed-step s (sound (sym (c .before .before .before .before .before .before .before .before .before .before .before .before .both .ensures) ∙ c .before .before .before .before .before .before .before .before .before .before .before .if1 .taken) refl refl) (start .args .size) (start .args .t) (λ (k : ℕ). figure (start .args .size) k 8) (c .to-long .ensures) (c .before .before .before .before .before .read2 .ensures) (rw (c .before .before .before .before .before .read2 .ensures, c .before .before .before .before .before .before .before .before .read .ensures) at (c .before .exec-add .ensures)))
+    rw (c .before .before .before .enum-told .given .1) (timed-step s (sound (sym (c .before .before .before .before .before .before .before .before .before .before .before .before .both .ensures) ∙ c .before .before .before .before .before .before .before .before .before .before .before .if1 .taken) refl refl) (start .args .size) (start .args .t) (λ (k : ℕ). figure (start .args .size) k 8) (c .to-data-timed .ensures) (c .before .before .before .before .before .read2 .ensures) (rw (c .before .before .before .before .before .read2 .ensures, c .before .before .before .before .before .before .before .before .read .ensures) at (c .before .exec-add .ensures)))
 
 returns-2 : tie.Need-returns-2
 returns-2 c a =
     let start = c .before .before .before .before .before .before .before .before .before .before .before .before .before .before .before in
     let s = held (now (start .args .d)) a (start .args .flags) in
-    rw (c .before .before .before .enum-told2 .given .1) (timed-step s (sound (sym (c .before .before .before .before .before .before .before .before .before .before .before .before .both .ensures) ∙ c .before .before .before .before .before .before .before .before .before .before .before .if1 .taken) refl refl) (start .args .size) (start .args .t) (λ (k : ℕ). figure (start .args .size) k 8) (c .to-long2 .ensures) (c .before .before .before .before .before .read2 .ensures) (rw (c .before .before .before .before .before .read2 .ensures, c .before .before .before .before .before .before .before .before .read .ensures) at (c .before .exec-sub .ensures)))
+    rw (c .before .before .before .enum-told2 .given .1) (timed-step s (sound (sym (c .before .before .before .before .before .before .before .before .before .before .before .before .both .ensures) ∙ c .before .before .before .before .before .before .before .before .before .before .before .if1 .taken) refl refl) (start .args .size) (start .args .t) (λ (k : ℕ). figure (start .args .size) k 8) (c .to-data-timed2 .ensures) (c .before .before .before .before .before .read2 .ensures) (rw (c .before .before .before .before .before .read2 .ensures, c .before .before .before .before .before .before .before .before .read .ensures) at (c .before .exec-sub .ensures)))
 
 returns-3 : tie.Need-returns-3
 returns-3 c a =
     let start = c .before .before .before .before .before .before .before .before .before .before .before .before .before .before .before in
     let s = held (now (start .args .d)) a (start .args .flags) in
-    rw (c .before .before .before .enum-told3 .given .1) (timed-step s (sound (sym (c .before .before .before .before .before .before .before .before .before .before .before .before .both .ensures) ∙ c .before .before .before .before .before .before .before .before .before .before .before .if1 .taken) refl refl) (start .args .size) (start .args .t) (λ (k : ℕ). figure (start .args .size) k 6) (c .to-long3 .ensures) (c .before .before .before .before .before .read2 .ensures) (rw (c .before .before .before .before .before .read2 .ensures, c .before .before .before .before .before .before .before .before .read .ensures) at (c .before .exec-cmp .ensures)))
+    rw (c .before .before .before .enum-told3 .given .1) (timed-step s (sound (sym (c .before .before .before .before .before .before .before .before .before .before .before .before .both .ensures) ∙ c .before .before .before .before .before .before .before .before .before .before .before .if1 .taken) refl refl) (start .args .size) (start .args .t) (λ (k : ℕ). figure (start .args .size) k 6) (c .to-data-timed3 .ensures) (c .before .before .before .before .before .read2 .ensures) (rw (c .before .before .before .before .before .read2 .ensures, c .before .before .before .before .before .before .before .before .read .ensures) at (c .before .exec-cmp .ensures)))
 
 returns-4 : tie.Need-returns-4
 returns-4 c a =
     let start = c .before .before .before .before .before .before .before .before .before .before .before .before .before .before .before in
     let s = held (now (start .args .d)) a (start .args .flags) in
-    rw (c .before .before .before .enum-told4 .given .1) (timed-step s (sound (sym (c .before .before .before .before .before .before .before .before .before .before .before .before .both .ensures) ∙ c .before .before .before .before .before .before .before .before .before .before .before .if1 .taken) refl refl) (start .args .size) (start .args .t) (λ (k : ℕ). figure (start .args .size) k 8) (c .to-long4 .ensures) (c .before .before .before .before .before .read2 .ensures) (rw (c .before .before .before .before .before .read2 .ensures, c .before .before .before .before .before .before .before .before .read .ensures) at (c .before .exec-addx .ensures)))
+    rw (c .before .before .before .enum-told4 .given .1) (timed-step s (sound (sym (c .before .before .before .before .before .before .before .before .before .before .before .before .both .ensures) ∙ c .before .before .before .before .before .before .before .before .before .before .before .if1 .taken) refl refl) (start .args .size) (start .args .t) (λ (k : ℕ). figure (start .args .size) k 8) (c .to-data-timed4 .ensures) (c .before .before .before .before .before .read2 .ensures) (rw (c .before .before .before .before .before .read2 .ensures, c .before .before .before .before .before .before .before .before .read .ensures) at (c .before .exec-addx .ensures)))
 
 returns-5 : tie.Need-returns-5
 returns-5 c a =
     let start = c .before .before .before .before .before .before .before .before .before .before .before .before .before .before .before in
     let s = held (now (start .args .d)) a (start .args .flags) in
-    rw (c .before .before .before .enum-told5 .given .1) (timed-step s (sound (sym (c .before .before .before .before .before .before .before .before .before .before .before .before .both .ensures) ∙ c .before .before .before .before .before .before .before .before .before .before .before .if1 .taken) refl refl) (start .args .size) (start .args .t) (λ (k : ℕ). figure (start .args .size) k 8) (c .to-long5 .ensures) (c .before .before .before .before .before .read2 .ensures) (rw (c .before .before .before .before .before .read2 .ensures, c .before .before .before .before .before .before .before .before .read .ensures) at (c .before .exec-subx .ensures)))
+    rw (c .before .before .before .enum-told5 .given .1) (timed-step s (sound (sym (c .before .before .before .before .before .before .before .before .before .before .before .before .both .ensures) ∙ c .before .before .before .before .before .before .before .before .before .before .before .if1 .taken) refl refl) (start .args .size) (start .args .t) (λ (k : ℕ). figure (start .args .size) k 8) (c .to-data-timed5 .ensures) (c .before .before .before .before .before .read2 .ensures) (rw (c .before .before .before .before .before .read2 .ensures, c .before .before .before .before .before .before .before .before .read .ensures) at (c .before .exec-subx .ensures)))
 
 returns-6 : tie.Need-returns-6
 returns-6 c a =

@@ -1,9 +1,0 @@
-use borrow.Author.Needs.{needs}
-use Rattle.step.proofs.steps.to_long.Statement.{statement}
-use Rattle.step.proofs.steps.to_long.Tie as tie
-
-returns : tie.Need-returns
-returns c = rw (c .before .before .accepted .ensures, c .before .before .before .figure .ensures) at (c .to-data .ensures)
-
-pub to-long-spec : {M : Type 1} → statement M
-to-long-spec = tie.close (tie.spec (search needs) (search needs) (search needs) returns)
