@@ -64,11 +64,11 @@ module _ (f : State → Step → Performed) (l : List Step) (kept : (s : State) 
     address-registers = k .address-registers ∙ h .address-registers;
   }
 
-  followed-kept : (s : State) (o : Outcome) (w : Performed) (p : ℕ) (on : State → ℕ → Ran) → AsMany s (w .state) → ((t : State) (q : ℕ) → AsMany t (on t q .state))
-      → AsMany s (followed o w p on .state)
-  followed-kept s Done w p on h more = then-kept s (w .state) _ h (more (w .state) (suc p))
-  followed-kept s (Trapped x) w p on h more = h
-  followed-kept s (Refused x) w p on h more = h
+  followed-kept : (s : State) (o : Outcome) (w : Performed) (p line : ℕ) (on : State → ℕ → Ran) → AsMany s (w .state) → ((t : State) (q : ℕ) → AsMany t (on t q .state))
+      → AsMany s (followed o w p line on .state)
+  followed-kept s Done w p line on h more = then-kept s (w .state) _ h (more (w .state) (suc p))
+  followed-kept s (Trapped x) w p line on h more = h
+  followed-kept s (Refused x) w p line on h more = h
 
   met-kept : (o : Spot) (s : State) (p : ℕ) (on : Step → Ran) → ((k : Step) → AsMany s (on k .state)) → AsMany s (met o s p on .state)
   met-kept pastEnd s p on h = same s
@@ -78,4 +78,4 @@ module _ (f : State → Step → Performed) (l : List Step) (kept : (s : State) 
   pub run-kept : (s : State) (p b : ℕ) → AsMany s (runOf f l s p b .state)
   unfolding runOf
   run-kept s p zero = met-kept (spotOf l p) s p _ (λ k. same s)
-  run-kept s p (suc b) = met-kept (spotOf l p) s p _ (λ k. followed-kept s (f s k .outcome) (f s k) p _ (kept s k) (λ t q. run-kept t q b))
+  run-kept s p (suc b) = met-kept (spotOf l p) s p _ (λ k. followed-kept s (f s k .outcome) (f s k) p (k .line) _ (kept s k) (λ t q. run-kept t q b))

@@ -50,7 +50,7 @@ after-none r = simp (zero-add)
 
 module _ (f : State → Step → Performed) (l : List Step) where
   -- ---- what a run makes of a place
-  pub run-past : (s : State) (p b : ℕ) → spotOf l p ≡ pastEnd → runOf f l s p b ≡ ends (End.Refused StartPastEnd p) s p
+  pub run-past : (s : State) (p b : ℕ) → spotOf l p ≡ pastEnd → runOf f l s p b ≡ ends (End.Refused StartPastEnd p 0) s p
   unfolding runOf
   run-past s p zero e = rw e
   run-past s p (suc b) e = rw e
@@ -64,16 +64,16 @@ module _ (f : State → Step → Performed) (l : List Step) where
   unfolding runOf
   run-none s p k e = rw e
 
-  pub run-step : (s : State) (p b : ℕ) (k : Step) → spotOf l p ≡ here k → runOf f l s p (suc b) ≡ followed (f s k .outcome) (f s k) p (λ t q. runOf f l t q b)
+  pub run-step : (s : State) (p b : ℕ) (k : Step) → spotOf l p ≡ here k → runOf f l s p (suc b) ≡ followed (f s k .outcome) (f s k) p (k .line) (λ t q. runOf f l t q b)
   unfolding runOf
   run-step s p b k e = rw e
 
   -- ---- the steps done
-  next-followed : (o : Outcome) (w : Performed) (p : ℕ) (on : State → ℕ → Ran) → ((t : State) (q : ℕ) → on t q .next ≡ q + on t q .steps)
-      → followed o w p on .next ≡ p + followed o w p on .steps
-  next-followed Done w p on h = h (w .state) (suc p) ∙ omega arith
-  next-followed (Trapped x) w p on h = omega arith
-  next-followed (Refused x) w p on h = omega arith
+  next-followed : (o : Outcome) (w : Performed) (p line : ℕ) (on : State → ℕ → Ran) → ((t : State) (q : ℕ) → on t q .next ≡ q + on t q .steps)
+      → followed o w p line on .next ≡ p + followed o w p line on .steps
+  next-followed Done w p line on h = h (w .state) (suc p) ∙ omega arith
+  next-followed (Trapped x) w p line on h = omega arith
+  next-followed (Refused x) w p line on h = omega arith
 
   next-met : (o : Spot) (s : State) (p : ℕ) (on : Step → Ran) → ((k : Step) → on k .next ≡ p + on k .steps) → met o s p on .next ≡ p + met o s p on .steps
   next-met pastEnd s p on h = omega arith
@@ -84,13 +84,13 @@ module _ (f : State → Step → Performed) (l : List Step) where
   pub run-next : (s : State) (p b : ℕ) → runOf f l s p b .next ≡ p + runOf f l s p b .steps
   unfolding runOf
   run-next s p zero = next-met (spotOf l p) s p _ (λ k. omega arith)
-  run-next s p (suc b) = next-met (spotOf l p) s p _ (λ k. next-followed (f s k .outcome) (f s k) p _ (λ t q. run-next t q b))
+  run-next s p (suc b) = next-met (spotOf l p) s p _ (λ k. next-followed (f s k .outcome) (f s k) p (k .line) _ (λ t q. run-next t q b))
 
   -- ---- the budget
-  few-followed : (o : Outcome) (w : Performed) (p b : ℕ) (on : State → ℕ → Ran) → ((t : State) (q : ℕ) → on t q .steps ≤ b) → followed o w p on .steps ≤ suc b
-  few-followed Done w p b on h = omega (arith, h (w .state) (suc p))
-  few-followed (Trapped x) w p b on h = omega arith
-  few-followed (Refused x) w p b on h = omega arith
+  few-followed : (o : Outcome) (w : Performed) (p line b : ℕ) (on : State → ℕ → Ran) → ((t : State) (q : ℕ) → on t q .steps ≤ b) → followed o w p line on .steps ≤ suc b
+  few-followed Done w p line b on h = omega (arith, h (w .state) (suc p))
+  few-followed (Trapped x) w p line b on h = omega arith
+  few-followed (Refused x) w p line b on h = omega arith
 
   few-met : (o : Spot) (s : State) (p b : ℕ) (on : Step → Ran) → ((k : Step) → on k .steps ≤ b) → met o s p on .steps ≤ b
   few-met pastEnd s p b on h = omega arith
@@ -101,19 +101,19 @@ module _ (f : State → Step → Performed) (l : List Step) where
   pub run-few : (s : State) (p b : ℕ) → runOf f l s p b .steps ≤ b
   unfolding runOf
   run-few s p zero = few-met (spotOf l p) s p 0 _ (λ k. omega arith)
-  run-few s p (suc b) = few-met (spotOf l p) s p (suc b) _ (λ k. few-followed (f s k .outcome) (f s k) p b _ (λ t q. run-few t q b))
+  run-few s p (suc b) = few-met (spotOf l p) s p (suc b) _ (λ k. few-followed (f s k .outcome) (f s k) p (k .line) b _ (λ t q. run-few t q b))
 
-  like-followed : (o : Outcome) (w : Performed) (p : ℕ) (on on′ : State → ℕ → Ran) → ((t : State) → on t (suc p) ≡ on′ t (suc p)) → followed o w p on ≡ followed o w p on′
-  like-followed Done w p on on′ h = ap (counted (w .clocks)) (h (w .state))
-  like-followed (Trapped x) w p on on′ h = refl
-  like-followed (Refused x) w p on on′ h = refl
+  like-followed : (o : Outcome) (w : Performed) (p line : ℕ) (on on′ : State → ℕ → Ran) → ((t : State) → on t (suc p) ≡ on′ t (suc p)) → followed o w p line on ≡ followed o w p line on′
+  like-followed Done w p line on on′ h = ap (counted (w .clocks)) (h (w .state))
+  like-followed (Trapped x) w p line on on′ h = refl
+  like-followed (Refused x) w p line on on′ h = refl
 
   enough-at : (m b : ℕ) (s : State) (p : ℕ) (o : Spot) → spotOf l p ≡ o → ((t : State) → runOf f l t (suc p) b ≡ runOf f l t (suc p) m) → runOf f l s p (suc b) ≡ runOf f l s p (suc m)
   enough-at m b s p pastEnd at h = run-past s p (suc b) at ∙ sym (run-past s p (suc m) at)
   enough-at m b s p atEnd at h = run-end s p (suc b) at ∙ sym (run-end s p (suc m) at)
   enough-at m b s p (here k) at h =
       run-step s p b k at
-      ∙ (like-followed (f s k .outcome) (f s k) p (λ t q. runOf f l t q b) (λ t q. runOf f l t q m) h
+      ∙ (like-followed (f s k .outcome) (f s k) p (k .line) (λ t q. runOf f l t q b) (λ t q. runOf f l t q m) h
       ∙ sym (run-step s p m k at))
 
   -- a budget of the steps that stand from p to the end is enough, whatever the budget beyond it
@@ -127,11 +127,11 @@ module _ (f : State → Step → Performed) (l : List Step) where
   abbrev pub continued : (k : ℕ) → Ran → Ran
   continued k r = after (r .steps) (r .clocks) (runOf f l (r .state) (r .next) k)
 
-  split-followed : (o : Outcome) (w : Performed) (p k : ℕ) (first whole : State → ℕ → Ran) → ((t : State) (q : ℕ) → goesOn (first t q .end) ≡ true → whole t q ≡ continued k (first t q))
-      → goesOn (followed o w p first .end) ≡ true → followed o w p whole ≡ continued k (followed o w p first)
-  split-followed Done w p k first whole h g = simp (h (w .state) (suc p) g, add-assoc, suc-add)
-  split-followed (Trapped x) w p k first whole h g = no g
-  split-followed (Refused x) w p k first whole h g = no g
+  split-followed : (o : Outcome) (w : Performed) (p line k : ℕ) (first whole : State → ℕ → Ran) → ((t : State) (q : ℕ) → goesOn (first t q .end) ≡ true → whole t q ≡ continued k (first t q))
+      → goesOn (followed o w p line first .end) ≡ true → followed o w p line whole ≡ continued k (followed o w p line first)
+  split-followed Done w p line k first whole h g = simp (h (w .state) (suc p) g, add-assoc, suc-add)
+  split-followed (Trapped x) w p line k first whole h g = no g
+  split-followed (Refused x) w p line k first whole h g = no g
 
   split-met : (o : Spot) (s : State) (p k : ℕ) (first whole : Step → Ran) → (o ≡ atEnd → runOf f l s p k ≡ ends End.Finished s p)
       → ((t : Step) → goesOn (first t .end) ≡ true → whole t ≡ continued k (first t))
@@ -154,14 +154,14 @@ module _ (f : State → Step → Performed) (l : List Step) where
   run-split s p zero k g = ap (runOf f l s p) (zero-add k) ∙ split-none (spotOf l p) s p k g
   run-split s p (suc j) k g =
       ap (runOf f l s p) (suc-add j k)
-      ∙ split-met (spotOf l p) s p k _ _ (run-end s p k) (λ t. split-followed (f s t .outcome) (f s t) p k (λ u q. runOf f l u q j) (λ u q. runOf f l u q (j + k)) (λ u q. run-split u q j k)) g
+      ∙ split-met (spotOf l p) s p k _ _ (run-end s p k) (λ t. split-followed (f s t .outcome) (f s t) p (t .line) k (λ u q. runOf f l u q j) (λ u q. runOf f l u q (j + k)) (λ u q. run-split u q j k)) g
 
   -- what goes on after j + k steps went on after j
-  going-followed : (o : Outcome) (w : Performed) (p : ℕ) (on on′ : State → ℕ → Ran) → ((t : State) (q : ℕ) → goesOn (on t q .end) ≡ true → goesOn (on′ t q .end) ≡ true)
-      → goesOn (followed o w p on .end) ≡ true → goesOn (followed o w p on′ .end) ≡ true
-  going-followed Done w p on on′ h g = h (w .state) (suc p) g
-  going-followed (Trapped x) w p on on′ h g = g
-  going-followed (Refused x) w p on on′ h g = g
+  going-followed : (o : Outcome) (w : Performed) (p line : ℕ) (on on′ : State → ℕ → Ran) → ((t : State) (q : ℕ) → goesOn (on t q .end) ≡ true → goesOn (on′ t q .end) ≡ true)
+      → goesOn (followed o w p line on .end) ≡ true → goesOn (followed o w p line on′ .end) ≡ true
+  going-followed Done w p line on on′ h g = h (w .state) (suc p) g
+  going-followed (Trapped x) w p line on on′ h g = g
+  going-followed (Refused x) w p line on on′ h g = g
 
   going-met : (o : Spot) (s : State) (p : ℕ) (on on′ : Step → Ran) → ((k : Step) → goesOn (on k .end) ≡ true → goesOn (on′ k .end) ≡ true)
       → goesOn (met o s p on .end) ≡ true → goesOn (met o s p on′ .end) ≡ true
@@ -178,7 +178,7 @@ module _ (f : State → Step → Performed) (l : List Step) where
   unfolding runOf
   run-going s p zero k g = going-none s p (0 + k) g
   run-going s p (suc j) k g =
-      going-met (spotOf l p) s p _ _ (λ t. going-followed (f s t .outcome) (f s t) p (λ u q. runOf f l u q (j + k)) (λ u q. runOf f l u q j) (λ u q. run-going u q j k))
+      going-met (spotOf l p) s p _ _ (λ t. going-followed (f s t .outcome) (f s t) p (t .line) (λ u q. runOf f l u q (j + k)) (λ u q. runOf f l u q j) (λ u q. run-going u q j k))
       (subst (λ (b : ℕ). goesOn (runOf f l s p b .end) ≡ true) (suc-add j k) g)
 
   -- however often a run is halted, it comes to what it would have come to
@@ -197,10 +197,10 @@ module _ (f : State → Step → Performed) (l : List Step) where
 
   -- ---- halted after any step
 
-  step-state : (o : Outcome) (w : Performed) (p : ℕ) (on : State → ℕ → Ran) → ((t : State) (q : ℕ) → on t q .state ≡ t) → followed o w p on .state ≡ w .state
-  step-state Done w p on h = h (w .state) (suc p)
-  step-state (Trapped x) w p on h = refl
-  step-state (Refused x) w p on h = refl
+  step-state : (o : Outcome) (w : Performed) (p line : ℕ) (on : State → ℕ → Ran) → ((t : State) (q : ℕ) → on t q .state ≡ t) → followed o w p line on .state ≡ w .state
+  step-state Done w p line on h = h (w .state) (suc p)
+  step-state (Trapped x) w p line on h = refl
+  step-state (Refused x) w p line on h = refl
 
   none-state : (t : State) (q : ℕ) → runOf f l t q 0 .state ≡ t
   unfolding runOf
@@ -220,4 +220,4 @@ module _ (f : State → Step → Performed) (l : List Step) where
       ap (λ (b : ℕ). runOf f l s p b .state) (sym (add-one j))
       ∙ (ap (λ (r : Ran). r .state) (run-split s p j 1 g)
       ∙ (ap (λ (r : Ran). r .state) (run-step (r .state) (r .next) 0 k at)
-      ∙ step-state (f (r .state) k .outcome) (f (r .state) k) (r .next) (λ t q. runOf f l t q 0) none-state))
+      ∙ step-state (f (r .state) k .outcome) (f (r .state) k) (r .next) (k .line) (λ t q. runOf f l t q 0) none-state))

@@ -101,7 +101,7 @@ module _ (f : State → Step → Performed) (l : List Step) where
         runs =
             λ b. ap (runOf f l s p) (one-add b)
             ∙ (run-step f l s p b k at
-            ∙ (ap (λ (x : Outcome). followed x (f s k) p (λ t q. runOf f l t q b)) (does .outcome)
+            ∙ (ap (λ (x : Outcome). followed x (f s k) p (k .line) (λ t q. runOf f l t q b)) (does .outcome)
             ∙ (ap₂ {C = Ran} (λ (t : State) (c : ℕ). counted c (runOf f l t (suc p) b)) (does .state) (does .clocks) ∙ after-one c _)));
       }
 

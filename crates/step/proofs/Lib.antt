@@ -4,6 +4,7 @@ pub mod Sound
 pub mod Figures
 pub mod Promises
 pub mod Leading
+pub mod Lines
 pub mod Resumed
 pub mod Rows
 pub mod Boxes

@@ -34,13 +34,13 @@ use Rattle.step.specs.Run.{Spot, here, atEnd, pastEnd, spotOf, ends, cou
 use Rattle.step.specs.Parts.{goesOn}
 use Rattle.step.proofs.Laws.{no as none, spot-here, spot-end, spot-past, run-past, run-end, run-none, run-step, run-split}
 use Rattle.step.proofs.Sound.{registersOf, sizeOf, smallOf, perform-number, perform-kept}
-use Rattle.step.proofs.Running.{nop}
+use Rattle.step.specs.Course.{nowhere}
 
 pub going-number : (e : End) → goesOn e ≡ leb (getD (endNumbers e) 0 0) 1
 going-number End.Finished = refl
 going-number End.Budget = refl
-going-number (End.Trapped trap p) = refl
-going-number (End.Refused fault p) = refl
+going-number (End.Trapped trap p line) = refl
+going-number (End.Refused fault p line) = refl
 
 -- no fault and no trap has the number 0
 number-some : (fault : Fault) → numberOf fault ≡ 0 → ⊥
@@ -55,23 +55,23 @@ class-some Short e = omega arith
 class-some Below e = omega arith
 
 -- ---- by the step's outcome
-refused-followed : (o : Outcome) (w : Performed) (p : ℕ) (on : State → ℕ → Ran) → (refusedWith o ≡ 0 → ⊥)
-    → let r = followed o w p on in (endNumbers (r .end) ≡ 3 ∷ refusedWith o ∷ p ∷ []) × (r ≡ ends (r .end) (w .state) p)
-refused-followed Done w p on h = absurd (h refl)
-refused-followed (Trapped trap) w p on h = absurd (h refl)
-refused-followed (Refused fault) w p on h = (refl, refl)
+refused-followed : (o : Outcome) (w : Performed) (p line : ℕ) (on : State → ℕ → Ran) → (refusedWith o ≡ 0 → ⊥)
+    → let r = followed o w p line on in (endNumbers (r .end) ≡ 3 ∷ refusedWith o ∷ p ∷ []) × (r ≡ ends (r .end) (w .state) p)
+refused-followed Done w p line on h = absurd (h refl)
+refused-followed (Trapped trap) w p line on h = absurd (h refl)
+refused-followed (Refused fault) w p line on h = (refl, refl)
 
-trapped-followed : (o : Outcome) (w : Performed) (p : ℕ) (on : State → ℕ → Ran) → (trappedWith o ≡ 0 → ⊥)
-    → let r = followed o w p on in (endNumbers (r .end) ≡ 2 ∷ trappedWith o ∷ p ∷ []) × (r ≡ counted (w .clocks) (ends (r .end) (w .state) (suc p)))
-trapped-followed Done w p on h = absurd (h refl)
-trapped-followed (Trapped trap) w p on h = (refl, refl)
-trapped-followed (Refused fault) w p on h = absurd (h refl)
+trapped-followed : (o : Outcome) (w : Performed) (p line : ℕ) (on : State → ℕ → Ran) → (trappedWith o ≡ 0 → ⊥)
+    → let r = followed o w p line on in (endNumbers (r .end) ≡ 2 ∷ trappedWith o ∷ p ∷ []) × (r ≡ counted (w .clocks) (ends (r .end) (w .state) (suc p)))
+trapped-followed Done w p line on h = absurd (h refl)
+trapped-followed (Trapped trap) w p line on h = (refl, refl)
+trapped-followed (Refused fault) w p line on h = absurd (h refl)
 
-done-followed : (o : Outcome) (w : Performed) (p : ℕ) (on : State → ℕ → Ran) → refusedWith o ≡ 0 → trappedWith o ≡ 0
-    → followed o w p on ≡ counted (w .clocks) (on (w .state) (suc p))
-done-followed Done w p on h k = refl
-done-followed (Trapped trap) w p on h k = absurd (class-some trap k)
-done-followed (Refused fault) w p on h k = absurd (number-some fault h)
+done-followed : (o : Outcome) (w : Performed) (p line : ℕ) (on : State → ℕ → Ran) → refusedWith o ≡ 0 → trappedWith o ≡ 0
+    → followed o w p line on ≡ counted (w .clocks) (on (w .state) (suc p))
+done-followed Done w p line on h k = refl
+done-followed (Trapped trap) w p line on h k = absurd (class-some trap k)
+done-followed (Refused fault) w p line on h k = absurd (number-some fault h)
 
 -- ---- the place told and the next place
 pub record Places (r : Ran) : Type 0 where
@@ -89,13 +89,13 @@ other ne e = absurd (ne (same 0 e))
 goes-places : (e : End) (s : State) (p : ℕ) → goesOn e ≡ true → Places (ends e s p)
 goes-places End.Finished s p g = record { of-refusal = λ n q. other (λ e. omega arith); of-trap = λ c q. other (λ e. omega arith) }
 goes-places End.Budget s p g = record { of-refusal = λ n q. other (λ e. omega arith); of-trap = λ c q. other (λ e. omega arith) }
-goes-places (End.Trapped trap q) s p g = none g
-goes-places (End.Refused fault q) s p g = none g
+goes-places (End.Trapped trap q line) s p g = none g
+goes-places (End.Refused fault q line) s p g = none g
 
-places-followed : (o : Outcome) (w : Performed) (p : ℕ) (on : State → ℕ → Ran) → ((t : State) (q : ℕ) → Places (on t q)) → Places (followed o w p on)
-places-followed Done w p on h = let u = h (w .state) (suc p) in record { of-refusal = u .of-refusal; of-trap = u .of-trap }
-places-followed (Trapped trap) w p on h = record { of-refusal = λ n q. other (λ e. omega arith); of-trap = λ c q e. ap suc (same 2 e) }
-places-followed (Refused fault) w p on h = record { of-refusal = λ n q e. same 2 e; of-trap = λ c q. other (λ e. omega arith) }
+places-followed : (o : Outcome) (w : Performed) (p line : ℕ) (on : State → ℕ → Ran) → ((t : State) (q : ℕ) → Places (on t q)) → Places (followed o w p line on)
+places-followed Done w p line on h = let u = h (w .state) (suc p) in record { of-refusal = u .of-refusal; of-trap = u .of-trap }
+places-followed (Trapped trap) w p line on h = record { of-refusal = λ n q. other (λ e. omega arith); of-trap = λ c q e. ap suc (same 2 e) }
+places-followed (Refused fault) w p line on h = record { of-refusal = λ n q e. same 2 e; of-trap = λ c q. other (λ e. omega arith) }
 
 places-met : (o : Spot) (s : State) (p : ℕ) (on : Step → Ran) → ((k : Step) → Places (on k)) → Places (met o s p on)
 places-met pastEnd s p on h = record { of-refusal = λ n q e. same 2 e; of-trap = λ c q. other (λ e. omega arith) }
@@ -111,20 +111,20 @@ module _ (f : State → Step → Performed) (l : List Step) where
   end-numbers s p b h = rw (run-end f l s p b (spot-end l p h)) (refl, refl)
 
   pub spent-numbers : (s : State) (p : ℕ) → p < length l → let r = runOf f l s p 0 in (endNumbers (r .end) ≡ 1 ∷ 0 ∷ 0 ∷ []) × (r ≡ ends (r .end) s p)
-  spent-numbers s p h = rw (run-none f l s p (getD l p nop) (spot-here l p nop h)) (refl, refl)
+  spent-numbers s p h = rw (run-none f l s p (getD l p nowhere) (spot-here l p nowhere h)) (refl, refl)
 
   -- ---- the step at the place where the run stands
   pub refused-numbers : (s : State) (p b : ℕ) (k : Step) → spotOf l p ≡ here k → (refusedWith (f s k .outcome) ≡ 0 → ⊥)
       → let r = runOf f l s p (suc b) in (endNumbers (r .end) ≡ 3 ∷ refusedWith (f s k .outcome) ∷ p ∷ []) × (r ≡ ends (r .end) (f s k .state) p)
-  refused-numbers s p b k at h = rw (run-step f l s p b k at) (refused-followed (f s k .outcome) (f s k) p (λ t q. runOf f l t q b) h)
+  refused-numbers s p b k at h = rw (run-step f l s p b k at) (refused-followed (f s k .outcome) (f s k) p (k .line) (λ t q. runOf f l t q b) h)
 
   pub trapped-numbers : (s : State) (p b : ℕ) (k : Step) → spotOf l p ≡ here k → (trappedWith (f s k .outcome) ≡ 0 → ⊥)
       → let r = runOf f l s p (suc b) in (endNumbers (r .end) ≡ 2 ∷ trappedWith (f s k .outcome) ∷ p ∷ []) × (r ≡ counted (f s k .clocks) (ends (r .end) (f s k .state) (suc p)))
-  trapped-numbers s p b k at h = rw (run-step f l s p b k at) (trapped-followed (f s k .outcome) (f s k) p (λ t q. runOf f l t q b) h)
+  trapped-numbers s p b k at h = rw (run-step f l s p b k at) (trapped-followed (f s k .outcome) (f s k) p (k .line) (λ t q. runOf f l t q b) h)
 
   pub done-on : (s : State) (p b : ℕ) (k : Step) → spotOf l p ≡ here k → refusedWith (f s k .outcome) ≡ 0 → trappedWith (f s k .outcome) ≡ 0
       → runOf f l s p (suc b) ≡ counted (f s k .clocks) (runOf f l (f s k .state) (suc p) b)
-  done-on s p b k at h c = run-step f l s p b k at ∙ done-followed (f s k .outcome) (f s k) p (λ t q. runOf f l t q b) h c
+  done-on s p b k at h c = run-step f l s p b k at ∙ done-followed (f s k .outcome) (f s k) p (k .line) (λ t q. runOf f l t q b) h c
 
   -- ---- a run of more than one step
   pub split-numbers : (s : State) (p j b : ℕ) {numbers : List ℕ} → let r = runOf f l s p j in goesOn (r .end) ≡ true
@@ -134,7 +134,7 @@ module _ (f : State → Step → Performed) (l : List Step) where
   pub run-places : (s : State) (p b : ℕ) → Places (runOf f l s p b)
   unfolding runOf
   run-places s p zero = places-met (spotOf l p) s p _ (λ k. goes-places End.Budget s p refl)
-  run-places s p (suc b) = places-met (spotOf l p) s p _ (λ k. places-followed (f s k .outcome) (f s k) p _ (λ t q. run-places t q b))
+  run-places s p (suc b) = places-met (spotOf l p) s p _ (λ k. places-followed (f s k .outcome) (f s k) p (k .line) _ (λ t q. run-places t q b))
 
 -- ---- steps of document 01
 
@@ -158,22 +158,22 @@ perform-few s k = rw (perform-number s (k .size) (k .form)) (step-few (registers
 abbrev Few : End → Type 0
 Few e = (n p : ℕ) → endNumbers e ≡ 3 ∷ n ∷ p ∷ [] → n ≤ 3
 
-few-followed : (o : Outcome) (w : Performed) (p : ℕ) (on : State → ℕ → Ran) → refusedWith o ≤ 3 → ((t : State) → Few (on t (suc p) .end)) → Few (followed o w p on .end)
-few-followed Done w p on few h = h (w .state)
-few-followed (Trapped trap) w p on few h = λ n q. other (λ e. omega arith)
-few-followed (Refused fault) w p on few h = λ n q e. subst (λ (n : ℕ). n ≤ 3) (same 1 e) few
+few-followed : (o : Outcome) (w : Performed) (p line : ℕ) (on : State → ℕ → Ran) → refusedWith o ≤ 3 → ((t : State) → Few (on t (suc p) .end)) → Few (followed o w p line on .end)
+few-followed Done w p line on few h = h (w .state)
+few-followed (Trapped trap) w p line on few h = λ n q. other (λ e. omega arith)
+few-followed (Refused fault) w p line on few h = λ n q e. subst (λ (n : ℕ). n ≤ 3) (same 1 e) few
 
 module _ (f : State → Step → Performed) (l : List Step) (few : (s : State) (k : Step) → refusedWith (f s k .outcome) ≤ 3) where
   few-none : (s : State) (p : ℕ) → p ≤ length l → Dec (p < length l) → Few (runOf f l s p 0 .end)
-  few-none s p h (yes inside) = rw (run-none f l s p (getD l p nop) (spot-here l p nop inside)) (λ n q. other (λ e. omega arith))
+  few-none s p h (yes inside) = rw (run-none f l s p (getD l p nowhere) (spot-here l p nowhere inside)) (λ n q. other (λ e. omega arith))
   few-none s p h (no past) = rw (run-end f l s p 0 (spot-end l p (omega arith))) (λ n q. other (λ e. omega arith))
 
   few-step : (s : State) (p b : ℕ) → p ≤ length l → Dec (p < length l) → ((t : State) → suc p ≤ length l → Few (runOf f l t (suc p) b .end))
       → Few (runOf f l s p (suc b) .end)
   few-step s p b h (yes inside) on =
-      let k = getD l p nop in
-      rw (run-step f l s p b k (spot-here l p nop inside))
-      (few-followed (f s k .outcome) (f s k) p (λ t q. runOf f l t q b) (few s k) (λ t. on t (omega arith)))
+      let k = getD l p nowhere in
+      rw (run-step f l s p b k (spot-here l p nowhere inside))
+      (few-followed (f s k .outcome) (f s k) p (k .line) (λ t q. runOf f l t q b) (few s k) (λ t. on t (omega arith)))
   few-step s p b h (no past) on = rw (run-end f l s p (suc b) (spot-end l p (omega arith))) (λ n q. other (λ e. omega arith))
 
   few-inside : (s : State) (p b : ℕ) → p ≤ length l → Few (runOf f l s p b .end)

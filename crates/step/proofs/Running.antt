@@ -8,14 +8,11 @@ use native.Mathlib.Omega.{arith}
 use native.Mathlib.Numerals.{add-one}
 use native.Mathlib.Nat.{add-zero}
 use lib.Dec.{ltb, leb}
-use lib.ListN.{length, take, getD}
+use lib.ListN.{length, take, getD, List·getD-eq-default}
 use lib.Seq.{take-all, take-length}
 use borrow.Author.Tests.{ltb-true, ltb-false, leb-true, leb-false}
-use Rattle.alu.specs.declared.types.Size.the-variants.{Byte}
 use Rattle.alu.specs.declared.types.Flags.{Flags}
 use Rattle.step.specs.declared.registers.State.{State}
-use Rattle.step.specs.declared.forms.TwoOp.the-variants.{Add}
-use Rattle.step.specs.declared.forms.Form.the-variants.{Two}
 use Rattle.step.specs.declared.forms.Step.{Step}
 use Rattle.step.specs.declared.steps.Came.{Came}
 use Rattle.step.specs.declared.steps.Came.the-variants as How
@@ -31,13 +28,9 @@ use Rattle.step.specs.declared.runs.Course.{Course}
 use Rattle.step.specs.Perform.{performOf}
 use Rattle.step.specs.Run.{counted, after, followed, runOf}
 use Rattle.step.specs.Lent.{held, ranIn}
-use Rattle.step.specs.Course.{cameOut, isDone, courseOf, stopOf, beginOf, turned, Advanced, stoodAt, haltedOf, leftOf, Ready, Halts}
+use Rattle.step.specs.Course.{cameOut, isDone, courseOf, stopOf, beginOf, turned, Advanced, stoodAt, nowhere, haltedOf, leftOf, Ready, Halts}
 use Rattle.step.proofs.Sound.{refused-free, never-past}
 use Rattle.step.proofs.Laws.{no, spot-here, spot-end, spot-past, after-none, run-past, run-end, run-none, run-step, run-enough}
-
--- a step past the end, which is nowhere read
-abbrev pub nop : Step
-nop = record { size = Byte; form = Two Add (record { 0 = 0 }) (record { 0 = 0 }) }
 
 -- what an outcome says of its figure: a refused step counts no clocks, and stands before the end
 pub record Free (x : Fault) (clocks : ℕ) : Type 0 where
@@ -50,10 +43,14 @@ Sober f = (s : State) (k : Step) (x : Fault) → f s k .outcome ≡ Refused x �
 pub sober : Sober performOf
 sober s k x e = record { none = refused-free s k x e; before-end = λ p. never-past s k (e ∙ ap Refused p) }
 
+-- the step before a place
+abbrev pub lastOf : List Step → (next : ℕ) → Step
+lastOf l next = getD l (next - 1) nowhere
+
 -- ---- the answer that a run comes to from where it stands
 abbrev pub answerOf : (State → Step → Performed) → List Step → (start stop : ℕ) → (d a : List ℕ) → Course → Ran
 answerOf f l start stop d a on =
-    cond (on .going) (after (on .next - start) (on .clocks) (runOf f l (held d a (on .flags)) (on .next) (stop - on .next))) (ranIn (leftOf (length l) start on) d a)
+    cond (on .going) (after (on .next - start) (on .clocks) (runOf f l (held d a (on .flags)) (on .next) (stop - on .next))) (ranIn (leftOf (length l) start on (lastOf l (on .next))) d a)
 
 abbrev ranWith : State → End → (next steps clocks : ℕ) → Ran
 ranWith s e n k c = record { end = e; state = s; next = n; steps = k; clocks = c }
@@ -77,7 +74,7 @@ module _ (f : State → Step → Performed) (l : List Step) (start stop : ℕ) w
   arrive-by true u c q clocks d a x e p r h k = rw p
   arrive-by false true c q clocks d a x e p r h k =
       let here : stop - q ≡ 0 = omega (arith, ltb-false q stop p) in
-      simp (p, e, r, here, run-none f l (held d a x) q (getD l q nop) (spot-here l q nop (ltb-true q (length l) r)), add-zero)
+      simp (p, e, r, here, run-none f l (held d a x) q (getD l q nowhere) (spot-here l q nowhere (ltb-true q (length l) r)), add-zero)
   arrive-by false false c q clocks d a x e p r h k =
       let here : stop - q ≡ 0 = omega (arith, ltb-false q stop p) in
       simp (p, e, r, here, run-end f l (held d a x) q 0 (spot-end l q (omega (arith, ltb-false q (length l) r))), add-zero)
@@ -86,9 +83,13 @@ module _ (f : State → Step → Performed) (l : List Step) (start stop : ℕ) w
       → answerOf f l start stop d a (courseOf (ltb q stop) c q clocks x) ≡ after (q - start) clocks (runOf f l (held d a x) q (stop - q))
   arrive-answer c q clocks d a x e = arrive-by (ltb q stop) (ltb q (length l)) c q clocks d a x e refl refl
 
+  -- after a step it is the last
+  last-here : {n q : ℕ} → q ≡ n → getD l q nowhere .line ≡ getD l n nowhere .line
+  last-here e = ap (λ (p : ℕ). getD l p nowhere .line) e
+
   -- after a step that came out so
   turned-answer : (o : Outcome) (c : Came) (b : ℕ) (p : Performed) (on : Course) → cameOut c ≡ o → stop - on .next ≡ suc b → start ≤ on .next → stop ≤ length l → ((x : Fault) → o ≡ Refused x → Free x (p .clocks))
-      → answerOf f l start stop (p .state .d) (p .state .a) (turned stop on c (p .clocks) (p .state .flags)) ≡ after (on .next - start) (on .clocks) (followed o p (on .next) (λ t q. runOf f l t q b))
+      → answerOf f l start stop (p .state .d) (p .state .a) (turned stop on c (p .clocks) (p .state .flags)) ≡ after (on .next - start) (on .clocks) (followed o p (on .next) (getD l (on .next) nowhere .line) (λ t q. runOf f l t q b))
   turned-answer Done c b p on e h k m free =
       let n = on .next in
       let left : stop - (n + 1) ≡ b = omega arith in
@@ -97,12 +98,13 @@ module _ (f : State → Step → Performed) (l : List Step) (start stop : ℕ) w
       ∙ (arrive-answer c (n + 1) (on .clocks + p .clocks) (p .state .d) (p .state .a) (p .state .flags) e (omega arith) m
       ∙ rw (left, add-one n) (after-counted (n - start) (suc n - start) (on .clocks) (p .clocks) _ (omega arith)))
   turned-answer (Trapped x) c b p on e h k m free =
-      rw e (same-ran (p .state) (ap (End.Trapped x) (omega arith)) (omega arith) (omega arith) (omega arith))
+      let at : on .next + 1 - 1 ≡ on .next = omega arith in
+      rw e (same-ran (p .state) (ap₂ (End.Trapped x) at (last-here at)) (omega arith) (omega arith) (omega arith))
   turned-answer (Refused x) c b p on e h k m free =
       let quiet = free x refl in
       let at = stood-before x (quiet .before-end) (on .next) in
       let none = quiet .none in
-      rw e (same-ran (p .state) (ap (End.Refused x) at) at (omega (arith, at)) (omega (arith, none)))
+      rw e (same-ran (p .state) (ap₂ (End.Refused x) at (last-here (omega arith))) at (omega (arith, at)) (omega (arith, none)))
 
 -- ---- the run's last place
 pub stop-few : (len start budget : ℕ) → (start ≤ stopOf len start budget) × ((stopOf len start budget ≤ start + budget) × (start < stopOf len start budget → stopOf len start budget ≤ len))
@@ -128,7 +130,9 @@ module _ (f : State → Step → Performed) (l : List Step) where
       rw p (arrive-answer f l start stop How.Done start 0 (s .d) (s .a) (s .flags) refl (omega arith) (omega arith)
       ∙ rw zero-yet (after-none _ ∙ most-by (ltb (length l - start) budget) s start budget inside refl))
   begin-by false s start budget p =
-      rw p (same-ran s refl refl (omega arith) refl ∙ sym (run-past f l s start budget (spot-past l start (leb-false start (length l) p))))
+      let past = leb-false start (length l) p in
+      let none : lastOf l start .line ≡ 0 = ap (λ (k : Step). k .line) (List·getD-eq-default l nowhere (omega arith)) in
+      rw p (same-ran s (ap (End.Refused StartPastEnd start) none) refl (omega arith) refl ∙ sym (run-past f l s start budget (spot-past l start past)))
 
   -- it comes to the run's answer
   pub begin-answer : (s : State) (start budget : ℕ)
@@ -140,24 +144,24 @@ pub record Runs (len start stop : ℕ) (on : Course) : Type 0 where
   pub from : start ≤ on .next
   pub to : on .next ≤ stop
   pub ready : on .going ≡ true → Ready stop on
-  pub halts : Halts len start on
+  pub halts : (last : Step) → Halts len start on last
 
 begin-runs-by : (t : Bool) (len start budget : ℕ) (f : Flags) → budget < 2 ^ 32 → leb start len ≡ t → let stop = stopOf len start budget in Runs len start stop (beginOf len start stop f)
 begin-runs-by true len start budget f h p =
     let stop = stopOf len start budget in
-    rw p (record { from = omega arith; to = omega arith; ready = λ g. record { inside = ltb-true start stop g; room = omega arith }; halts = record { from = omega arith; few = omega arith } })
-begin-runs-by false len start budget f h p = rw p (record { from = omega arith; to = omega arith; ready = no; halts = record { from = omega arith; few = omega arith } })
+    rw p (record { from = omega arith; to = omega arith; ready = λ g. record { inside = ltb-true start stop g; room = omega arith }; halts = λ last. record { from = omega arith; few = omega arith } })
+begin-runs-by false len start budget f h p = rw p (record { from = omega arith; to = omega arith; ready = no; halts = λ last. record { from = omega arith; few = omega arith } })
 
 pub begin-runs : (len start budget : ℕ) (f : Flags) → budget < 2 ^ 32 → let stop = stopOf len start budget in Runs len start stop (beginOf len start stop f)
 begin-runs len start budget f h = begin-runs-by (leb start len) len start budget f h refl
 
-halted-near : (o : Outcome) (len n : ℕ) → (n ≤ haltedOf o len (n + 1) .next) × (haltedOf o len (n + 1) .next ≤ n + 1)
-halted-near Done len n = (omega arith, omega arith)
-halted-near (Trapped x) len n = (omega arith, omega arith)
-halted-near (Refused BadSmall) len n = (omega arith, omega arith)
-halted-near (Refused NoSuchSize) len n = (omega arith, omega arith)
-halted-near (Refused NoSuchRegister) len n = (omega arith, omega arith)
-halted-near (Refused StartPastEnd) len n = (omega arith, omega arith)
+halted-near : (o : Outcome) (len n line : ℕ) → (n ≤ haltedOf o len (n + 1) line .next) × (haltedOf o len (n + 1) line .next ≤ n + 1)
+halted-near Done len n line = (omega arith, omega arith)
+halted-near (Trapped x) len n line = (omega arith, omega arith)
+halted-near (Refused BadSmall) len n line = (omega arith, omega arith)
+halted-near (Refused NoSuchSize) len n line = (omega arith, omega arith)
+halted-near (Refused NoSuchRegister) len n line = (omega arith, omega arith)
+halted-near (Refused StartPastEnd) len n line = (omega arith, omega arith)
 
 both-true : (t u : Bool) → (t && u) ≡ true → u ≡ true
 both-true true u e = e
@@ -167,14 +171,13 @@ module _ (len start stop : ℕ) (on : Course) (few : stop < start + 2 ^ 32) (g :
   turned-runs : (c : Came) (clocks : ℕ) (f : Flags) → clocks < 2 ^ 32 → Runs len start stop (turned stop on c clocks f)
   turned-runs c clocks f k =
       let r = w .ready g in
-      let near = halted-near (cameOut c) len (on .next) in
       let later : start ≤ on .next = w .from in
       let inside : on .next < stop = r .inside in
       record {
         from = omega arith;
         to = omega arith;
         ready = λ e. record { inside = ltb-true (on .next + 1) stop (both-true (isDone (cameOut c)) _ e); room = omega (arith, r .room) };
-        halts = record { from = omega (arith, near .0); few = omega (arith, near .1) };
+        halts = λ last. let near = halted-near (cameOut c) len (on .next) (last .line) in record { from = omega (arith, near .0); few = omega (arith, near .1) };
       }
 
   pub turn-runs : (p : Performed) (d a : List ℕ) (r : Course) → p .clocks < 2 ^ 32 → Advanced stop on p d a r → Runs len start stop r
@@ -194,25 +197,25 @@ advanced stop on q p c t {r = r} e came is h = record {
 -- ---- a step doesn't change the answer that a run comes to
 module _ (f : State → Step → Performed) (sober : Sober f) (l : List Step) (start stop : ℕ) where
   turn-by : (b : ℕ) (d a : List ℕ) (on : Course) (c : Came) → on .going ≡ true → stop - on .next ≡ suc b → start ≤ on .next → stop ≤ length l
-      → let p = f (held d a (on .flags)) (getD l (on .next) nop) in cameOut c ≡ p .outcome
+      → let p = f (held d a (on .flags)) (getD l (on .next) nowhere) in cameOut c ≡ p .outcome
       → answerOf f l start stop (p .state .d) (p .state .a) (turned stop on c (p .clocks) (p .state .flags)) ≡ answerOf f l start stop d a on
   turn-by b d a on c g e h k came =
-      let t = getD l (on .next) nop in
+      let t = getD l (on .next) nowhere in
       let s = held d a (on .flags) in
       turned-answer f l start stop (f s t .outcome) c b (f s t) on came e h k (sober s t)
-      ∙ sym (simp (g, e, run-step f l s (on .next) b t (spot-here l (on .next) nop (omega arith))))
+      ∙ sym (simp (g, e, run-step f l s (on .next) b t (spot-here l (on .next) nowhere (omega arith))))
 
   pub turn-answer : (d a d′ a′ : List ℕ) (on r : Course) → on .going ≡ true → Runs (length l) start stop on → stop ≤ length l
-      → Advanced stop on (f (held d a (on .flags)) (getD l (on .next) nop)) d′ a′ r → answerOf f l start stop d′ a′ r ≡ answerOf f l start stop d a on
+      → Advanced stop on (f (held d a (on .flags)) (getD l (on .next) nowhere)) d′ a′ r → answerOf f l start stop d′ a′ r ≡ answerOf f l start stop d a on
   turn-answer d a d′ a′ on r g w k adv =
       let inside : on .next < stop = w .ready g .inside in
-      let p = f (held d a (on .flags)) (getD l (on .next) nop) in
+      let p = f (held d a (on .flags)) (getD l (on .next) nowhere) in
       ap₂ {C = Ran} (λ (d a : List ℕ). answerOf f l start stop d a r) (adv .data-registers) (adv .address-registers)
       ∙ (ap (λ (r : Course). answerOf f l start stop (p .state .d) (p .state .a) r) (adv .course)
       ∙ turn-by (stop - on .next - 1) d a on (r .came) g (omega arith) (w .from) k (adv .outcome))
 
 -- a run that has ended says its answer
-pub stopped-answer : (f : State → Step → Performed) (l : List Step) (start stop : ℕ) (d a : List ℕ) (on : Course) → on .going ≡ false → ranIn (leftOf (length l) start on) d a ≡ answerOf f l start stop d a on
+pub stopped-answer : (f : State → Step → Performed) (l : List Step) (start stop : ℕ) (d a : List ℕ) (on : Course) → on .going ≡ false → ranIn (leftOf (length l) start on (lastOf l (on .next))) d a ≡ answerOf f l start stop d a on
 stopped-answer f l start stop d a on g = rw g
 
 -- the variant of the loop: the places that are left, and one while the run goes on

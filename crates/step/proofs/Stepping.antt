@@ -131,17 +131,17 @@ module _ (s : State) {w : Ruling} (is : w ≡ Sound) where
 
 -- ---- a run of one step is that step
 
-one-followed : (o : Outcome) (p : Performed) (on : State → ℕ → Ran) → ((x : Fault) → o ≡ Refused x → p .clocks ≡ 0) → on (p .state) 1 ≡ ends End.Finished (p .state) 1
-    → let r = followed o p 0 on in (r .state ≡ p .state) × ((outcomeFrom (r .end) ≡ o) × (r .clocks ≡ p .clocks))
-one-followed Done p on free at-end = rw at-end (refl, (refl, omega arith))
-one-followed (Trapped trap) p on free at-end = (refl, (refl, omega arith))
-one-followed (Refused fault) p on free at-end = (refl, (refl, sym (free fault refl)))
+one-followed : (o : Outcome) (p : Performed) (line : ℕ) (on : State → ℕ → Ran) → ((x : Fault) → o ≡ Refused x → p .clocks ≡ 0) → on (p .state) 1 ≡ ends End.Finished (p .state) 1
+    → let r = followed o p 0 line on in (r .state ≡ p .state) × ((outcomeFrom (r .end) ≡ o) × (r .clocks ≡ p .clocks))
+one-followed Done p line on free at-end = rw at-end (refl, (refl, omega arith))
+one-followed (Trapped trap) p line on free at-end = (refl, (refl, omega arith))
+one-followed (Refused fault) p line on free at-end = (refl, (refl, sym (free fault refl)))
 
 pub one-step : (s : State) (k : Step)
     → let r = runOf performOf (k ∷ []) s 0 1 in (r .state ≡ performOf s k .state) × ((outcomeFrom (r .end) ≡ performOf s k .outcome) × (r .clocks ≡ performOf s k .clocks))
 one-step s k =
     rw (run-step performOf (k ∷ []) s 0 0 k refl)
-    (one-followed (performOf s k .outcome) (performOf s k) (λ t q. runOf performOf (k ∷ []) t q 0) (refused-free s k) (run-end performOf (k ∷ []) (performOf s k .state) 1 0 refl))
+    (one-followed (performOf s k .outcome) (performOf s k) (k .line) (λ t q. runOf performOf (k ∷ []) t q 0) (refused-free s k) (run-end performOf (k ∷ []) (performOf s k .state) 1 0 refl))
 
 -- what such a run says, its figure in 32 bits
 abbrev oneOf : Ran → Performed

@@ -8,6 +8,9 @@ use lib.Dec.{ltb, leb}
 use Rattle.alu.specs.declared.types.Flags.{Flags}
 use Rattle.alu.specs.declared.types.Answer.{Answer}
 use Rattle.step.specs.declared.registers.State.{State}
+use Rattle.alu.specs.declared.types.Size.the-variants.{Byte}
+use Rattle.step.specs.declared.forms.Form.the-variants.{Chk}
+use Rattle.step.specs.declared.forms.Step.{Step}
 use Rattle.step.specs.declared.forms.Count.{Count}
 use Rattle.step.specs.declared.forms.Count.the-variants as Count
 use Rattle.step.specs.declared.steps.Acted.{Acted}
@@ -88,6 +91,10 @@ pub record Advanced (stop : ℕ) (on : Course) (p : Performed) (d a : List ℕ) 
   pub outcome : cameOut (r .came) ≡ p .outcome
   pub course : r ≡ turned stop on (r .came) (p .clocks) (p .state .flags)
 
+-- what stands at a place that a listing has not
+abbrev pub nowhere : Step
+nowhere = record { size = Byte; form = Chk (record { 0 = 0 }) (record { 0 = 0 }); line = 0 }
+
 -- how a run ends that takes no step more at a place of a listing of `len` steps, or at its end
 abbrev pub endAt : (len next : ℕ) → End
 endAt len next = cond (ltb next len) End.Budget End.Finished
@@ -99,23 +106,23 @@ stoodAt NoSuchSize next = next - 1
 stoodAt NoSuchRegister next = next - 1
 stoodAt StartPastEnd next = next
 
--- how a run ends and where it would go on, if `next` is the place behind the last step, which came out so
-abbrev pub haltedOf : Outcome → (len next : ℕ) → Halted
-haltedOf Done len next = record { end = endAt len next; next = next }
-haltedOf (Trapped trap) len next = record { end = End.Trapped trap (next - 1); next = next }
-haltedOf (Refused fault) len next = record { end = End.Refused fault (stoodAt fault next); next = stoodAt fault next }
+-- how a run ends and where it would go on, if `next` is the place behind the last step, which came out so and is of this text line
+abbrev pub haltedOf : Outcome → (len next line : ℕ) → Halted
+haltedOf Done len next line = record { end = endAt len next; next = next }
+haltedOf (Trapped trap) len next line = record { end = End.Trapped trap (next - 1) line; next = next }
+haltedOf (Refused fault) len next line = record { end = End.Refused fault (stoodAt fault next) line; next = stoodAt fault next }
 
 -- the outcome of a run of one step
 abbrev pub outcomeFrom : End → Outcome
 outcomeFrom End.Finished = Done
 outcomeFrom End.Budget = Done
-outcomeFrom (End.Trapped trap place) = Trapped trap
-outcomeFrom (End.Refused fault place) = Refused fault
+outcomeFrom (End.Trapped trap place line) = Trapped trap
+outcomeFrom (End.Refused fault place line) = Refused fault
 
--- what a run that has ended says
-abbrev pub leftOf : (len start : ℕ) → Course → Left
-leftOf len start on =
-    let halt = haltedOf (cameOut (on .came)) len (on .next) in
+-- what a run that has ended says, if `last` is the step before the place where it stands
+abbrev pub leftOf : (len start : ℕ) → Course → (last : Step) → Left
+leftOf len start on last =
+    let halt = haltedOf (cameOut (on .came)) len (on .next) (last .line) in
     record { end = halt .end; next = halt .next; steps = halt .next - start; clocks = on .clocks; flags = on .flags }
 
 -- a step can be done: one stands before the run's last place, and the sum of the figures has room for those that do
@@ -124,6 +131,6 @@ pub record Ready (stop : ℕ) (on : Course) : Type 0 where
   pub room : on .clocks + (stop - on .next) * 2 ^ 32 < 2 ^ 64
 
 -- the steps that were taken can be counted in 32 bits
-pub record Halts (len start : ℕ) (on : Course) : Type 0 where
-  pub from : start ≤ haltedOf (cameOut (on .came)) len (on .next) .next
-  pub few : haltedOf (cameOut (on .came)) len (on .next) .next < start + 2 ^ 32
+pub record Halts (len start : ℕ) (on : Course) (last : Step) : Type 0 where
+  pub from : start ≤ leftOf len start on last .next
+  pub few : leftOf len start on last .next < start + 2 ^ 32

@@ -5,5 +5,6 @@ pub mod Perform
 pub mod Run
 pub mod Lent
 pub mod Parts
+pub mod Lines
 pub mod Rack
 pub mod Course

@@ -16,8 +16,8 @@ use Rattle.step.specs.Run.{after, runOf}
 abbrev pub goesOn : End → Bool
 goesOn End.Finished = true
 goesOn End.Budget = true
-goesOn (End.Trapped trap p) = false
-goesOn (End.Refused fault p) = false
+goesOn (End.Trapped trap p n) = false
+goesOn (End.Refused fault p n) = false
 
 -- a run with the budget b, halted there and continued with the next budget of the list, from its state and its next place, and so on: steps and
 -- figures add. (It walks on past a part that is trapped or refused; `PartsGo` says that there is none)

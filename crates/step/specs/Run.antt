@@ -42,16 +42,17 @@ counted c r = record { end = r .end; state = r .state; next = r .next; steps = s
 abbrev pub after : (n c : ℕ) → Ran → Ran
 after n c r = record { end = r .end; state = r .state; next = r .next; steps = n + r .steps; clocks = c + r .clocks }
 
--- The step at place p was performed as o; its outcome stands first, to go by its cases. Done: it is counted, and the run goes on, from o's state and
--- the place after p. A trap is counted and ends the run; the next place is after it. A refused step is not counted and is the next place.
-abbrev pub followed : Outcome → Performed → (p : ℕ) → (on : State → ℕ → Ran) → Ran
-followed Done o p on = counted (o .clocks) (on (o .state) (suc p))
-followed (Trapped trap) o p on = counted (o .clocks) (ends (End.Trapped trap p) (o .state) (suc p))
-followed (Refused fault) o p on = ends (End.Refused fault p) (o .state) p
+-- The step at place p, of the text line n, was performed as o; its outcome stands first, to go by its cases. Done: it is counted, and the run goes on,
+-- from o's state and the place after p. A trap is counted and ends the run; the next place is after it. A refused step is not counted and is the next
+-- place. Both hand on the place and the line
+abbrev pub followed : Outcome → Performed → (p n : ℕ) → (on : State → ℕ → Ran) → Ran
+followed Done o p n on = counted (o .clocks) (on (o .state) (suc p))
+followed (Trapped trap) o p n on = counted (o .clocks) (ends (End.Trapped trap p n) (o .state) (suc p))
+followed (Refused fault) o p n on = ends (End.Refused fault p n) (o .state) p
 
--- the tests of a place; `on` is what a spent budget or the step makes of it
+-- the tests of a place, past the end there is no line; `on` is what a spent budget or the step makes of it
 abbrev pub met : Spot → State → (p : ℕ) → (on : Step → Ran) → Ran
-met pastEnd s p on = ends (End.Refused StartPastEnd p) s p
+met pastEnd s p on = ends (End.Refused StartPastEnd p 0) s p
 met atEnd s p on = ends End.Finished s p
 met (here k) s p on = on k
 
@@ -59,7 +60,7 @@ met (here k) s p on = on k
 module _ (f : State → Step → Performed) (l : List Step) where
   unfoldable pub runOf : State → (p b : ℕ) → Ran
   runOf s p zero = met (spotOf l p) s p (λ k. ends End.Budget s p)
-  runOf s p (suc b) = met (spotOf l p) s p (λ k. followed (f s k .outcome) (f s k) p (λ t q. runOf t q b))
+  runOf s p (suc b) = met (spotOf l p) s p (λ k. followed (f s k .outcome) (f s k) p (k .line) (λ t q. runOf t q b))
 
 -- steps modulo 2 ^ 32 and clocks modulo 2 ^ 64: the widths of the code's numbers
 abbrev pub wrapped : Ran → Ran
@@ -75,5 +76,12 @@ resumedOf f l r b = wrapped (after (r .steps) (r .clocks) (runOf f l (r .state) 
 abbrev pub endNumbers : End → List ℕ
 endNumbers End.Finished = 0 ∷ 0 ∷ 0 ∷ []
 endNumbers End.Budget = 1 ∷ 0 ∷ 0 ∷ []
-endNumbers (End.Trapped trap p) = 2 ∷ classOf trap ∷ p ∷ []
-endNumbers (End.Refused fault p) = 3 ∷ numberOf fault ∷ p ∷ []
+endNumbers (End.Trapped trap p n) = 2 ∷ classOf trap ∷ p ∷ []
+endNumbers (End.Refused fault p n) = 3 ∷ numberOf fault ∷ p ∷ []
+
+-- and the text line of the step there; 0 where there is none
+abbrev pub endLine : End → ℕ
+endLine End.Finished = 0
+endLine End.Budget = 0
+endLine (End.Trapped trap p n) = n
+endLine (End.Refused fault p n) = n

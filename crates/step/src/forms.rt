@@ -60,9 +60,11 @@ pub enum Form {
     Chk(D, D),
 }
 
+// `line` is the text line that a step comes from, 0 if it was made by hand. No test looks at it: a trap or a refusal tells it.
 pub struct Step {
     pub size: Size,
     pub form: Form,
+    pub line: u8,
 }
 
 // What a form does, apart from its operands. ADDQ and SUBQ on an address register are operations of their own.

@@ -14,6 +14,8 @@ use super::runs::SLOTS;
 use super::runs::advance;
 use super::runs::begin;
 use super::runs::left_off;
+use super::runs::nowhere;
+use super::runs::place_before;
 use super::runs::ran_of;
 use super::runs::stop_at;
 use super::steps::Outcome;
@@ -55,7 +57,8 @@ pub fn run_in(
     while on.going {
         on = advance(d, a, stop, on, listing[on.next]);
     }
-    left_off(len, start, on)
+    let last = fetch(listing, place_before(on.next), nowhere());
+    left_off(len, start, on, last)
 }
 
 // A run of a listing that is lent, of any length.

@@ -6,9 +6,11 @@ ghost use Rattle.step.specs.Perform.{performOf};
 ghost use Rattle.step.specs.declared.runs.End.the-variants as End;
 ghost use Rattle.step.specs.Run.{ends, runOf, resumedOf};
 ghost use Rattle.step.specs.Lent.{held, ranIn};
-ghost use Rattle.step.specs.Course.{courseOf, stopOf, beginOf, Advanced, endAt, stoodAt, haltedOf, leftOf, Ready, Halts};
+ghost use Rattle.step.specs.Course.{courseOf, stopOf, beginOf, Advanced, endAt, stoodAt, nowhere, haltedOf, leftOf, Ready, Halts};
+use super::forms::Form;
 use super::forms::Step;
 use super::lent::run_first;
+use super::registers::D;
 use super::registers::State;
 use super::steps::Came;
 use super::steps::Fault;
@@ -18,16 +20,17 @@ use super::steps::is_done;
 use super::steps::outcome_of;
 use super::steps::perform_on;
 use alu::types::Flags;
+use alu::types::Size;
 
 // The slots of a listing that stands in an array.
 pub const SLOTS: usize = 256;
 
-// How a run ends; a trap and a refusal with their place.
+// How a run ends; a trap and a refusal with their place, and with the text line of the step there.
 pub enum End {
     Finished,
     Budget,
-    Trapped(Trap, usize),
-    Refused(Fault, usize),
+    Trapped(Trap, usize, u8),
+    Refused(Fault, usize, u8),
 }
 
 // What a run hands back. `next` is the place to go on from; `clocks` is the sum of the steps' figures.
@@ -90,6 +93,17 @@ pub(crate) fn stop_at(len: usize, start: usize, budget: u32) -> usize
         }
     } else {
         start
+    }
+}
+
+// What stands at a place that a listing has not: its line is 0.
+pub(crate) fn nowhere() -> Step
+    ensures { λ r. ⌜ r ≡ nowhere ⌝ }
+{
+    Step {
+        size: Size::Byte,
+        form: Form::Chk(D(0), D(0)),
+        line: 0,
     }
 }
 
@@ -156,7 +170,7 @@ fn end_at(len: usize, next: usize) -> End
 }
 
 // The place before; 0 stays.
-fn place_before(next: usize) -> usize
+pub(crate) fn place_before(next: usize) -> usize
     ensures { λ r. ⌜ r ≡ next - 1 ⌝ }
 {
     if 0 < next { next - 1 } else { 0 }
@@ -174,35 +188,37 @@ fn stood_at(fault: Fault, next: usize) -> usize
     }
 }
 
-// `next` is the place behind the last step, which came out so. After a trap the run goes on there; a refused step is itself
-// the next place.
-fn halted_after(outcome: Outcome, len: usize, next: usize) -> Halted
-    ensures { λ r. ⌜ r ≡ haltedOf outcome len next ⌝ }
+// `next` is the place behind the last step, which came out so and is of this text line. After a trap the run goes on there;
+// a refused step is itself the next place.
+fn halted_after(outcome: Outcome, len: usize, next: usize, line: u8) -> Halted
+    ensures { λ r. ⌜ r ≡ haltedOf outcome len next line ⌝ }
 {
     match outcome {
         Outcome::Done => halt(end_at(len, next), next),
-        Outcome::Trapped(trap) => halt(End::Trapped(trap, place_before(next)), next),
+        Outcome::Trapped(trap) => halt(End::Trapped(trap, place_before(next), line), next),
         Outcome::Refused(fault) => {
             let at = stood_at(fault, next);
-            halt(End::Refused(fault, at), at)
+            halt(End::Refused(fault, at, line), at)
         }
     }
 }
 
-// What a run from `start` that has ended says.
-pub(crate) fn left_off(len: usize, start: usize, on: Course) -> Left
-    requires { ⌜ Halts len start on ⌝ }
-    ensures { λ r. ⌜ r ≡ leftOf len start on ⌝ }
+// What a run from `start` that has ended says; `last` is the step before the place where it stands.
+pub(crate) fn left_off(len: usize, start: usize, on: Course, last: Step) -> Left
+    requires { ⌜ Halts len start on last ⌝ }
+    ensures { λ r. ⌜ r ≡ leftOf len start on last ⌝ }
 {
     let came = on.came;
     let flags = on.flags;
-    let halt = halted_after(outcome_of(came), len, on.next);
+    let line = last.line;
+    let halt = halted_after(outcome_of(came), len, on.next, line);
     let end = halt.end;
     let taken = halt.next - start;
+    let steps = taken as u32;
     Left {
         end,
         next: halt.next,
-        steps: taken as u32,
+        steps,
         clocks: on.clocks,
         flags,
     }

@@ -617,8 +617,8 @@ fn outcome_from(end: End) -> Outcome
     match end {
         End::Finished => Outcome::Done,
         End::Budget => Outcome::Done,
-        End::Trapped(trap, _) => Outcome::Trapped(trap),
-        End::Refused(fault, _) => Outcome::Refused(fault),
+        End::Trapped(trap, _, _) => Outcome::Trapped(trap),
+        End::Refused(fault, _, _) => Outcome::Refused(fault),
     }
 }
 

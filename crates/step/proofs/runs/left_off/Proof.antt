@@ -8,8 +8,8 @@ sub-taken c =
     let start = c .before .before .before .before in
     rw (c .before .halted-after .ensures, c .before .before .outcome-of .ensures) (start .pre .from)
 
-cast-t10 : tie.Need-cast-t10
-cast-t10 c =
+cast-steps : tie.Need-cast-steps
+cast-steps c =
     let start = c .before .before .before .before in
     let few = start .pre .few in
     record { fits = rw (c .before .halted-after .ensures, c .before .before .outcome-of .ensures) (omega (arith, few)) }
@@ -18,4 +18,4 @@ returns : tie.Need-returns
 returns c = rw (c .before .halted-after .ensures, c .before .before .outcome-of .ensures)
 
 pub left-off-spec : {M : Type 1} → statement M
-left-off-spec = tie.close (tie.spec (search needs) (search needs) sub-taken cast-t10 returns)
+left-off-spec = tie.close (tie.spec (search needs) (search needs) sub-taken cast-steps returns)
