@@ -11,7 +11,7 @@ use Rattle.step.specs.declared.forms.Found.the-variants as Found
 use Rattle.step.specs.Operations.{operationAt}
 use Rattle.recipe_calls.specs.declared.words.Made.{Made}
 use Rattle.recipe_calls.specs.declared.words.Made.the-variants.{Is, NoForm}
-use Rattle.recipe_calls.specs.Words.{byteRadix, byteOf, madeOf, formOf, sizedOf, named, noStep, stepOf}
+use Rattle.recipe_calls.specs.Words.{byteRadix, byteOf, madeOf, formOf, sizedOf, named, noStep, bareOf}
 
 pub low : (w : ℕ) {b : ℕ} → b ≡ w % byteRadix → b ≡ byteOf 0 w
 low w e = e ∙ ap (λ x. x % byteRadix) (sym (div-one w))
@@ -26,8 +26,8 @@ made-by w op found kind s t m = m ∙ rw (found, op, kind, s, t) refl
 pub form-named :
     (w : ℕ) {op size kind s t : ℕ} {found : Found} {o : Operation} {m : Made} {form : Form} →
     op ≡ byteOf 0 w → found ≡ operationAt op → found ≡ Found.Is o → kind ≡ byteOf 2 w → s ≡ byteOf 3 w → t ≡ byteOf 4 w → m ≡ madeOf o kind s t →
-    m ≡ Is form → size ≡ byteOf 1 w → sizedOf size form ≡ stepOf w
-unfolding stepOf
+    m ≡ Is form → size ≡ byteOf 1 w → sizedOf size form ≡ bareOf w
+unfolding bareOf
 form-named w {kind = k} {s = p} {t = q} {form = form} op found known kind s t m is size =
     ap (λ n. sizedOf n form) size
     ∙ ap (named (byteOf 1 w)) (sym is ∙ made-by w op found kind s t (m ∙ ap (λ f. formOf f k p q) (sym known)))
@@ -35,12 +35,12 @@ form-named w {kind = k} {s = p} {t = q} {form = form} op found known kind s t m 
 pub none-named :
     (w : ℕ) {op kind s t : ℕ} {found : Found} {o : Operation} {m : Made} →
     op ≡ byteOf 0 w → found ≡ operationAt op → found ≡ Found.Is o → kind ≡ byteOf 2 w → s ≡ byteOf 3 w → t ≡ byteOf 4 w → m ≡ madeOf o kind s t →
-    m ≡ NoForm → noStep ≡ stepOf w
-unfolding stepOf
+    m ≡ NoForm → noStep ≡ bareOf w
+unfolding bareOf
 none-named w {kind = k} {s = p} {t = q} op found known kind s t m is =
     ap (named (byteOf 1 w)) (sym is ∙ made-by w op found kind s t (m ∙ ap (λ f. formOf f k p q) (sym known)))
 
-pub unknown-named : (w : ℕ) {op : ℕ} {found : Found} → op ≡ byteOf 0 w → found ≡ operationAt op → found ≡ Found.NoOperation → noStep ≡ stepOf w
-unfolding stepOf
+pub unknown-named : (w : ℕ) {op : ℕ} {found : Found} → op ≡ byteOf 0 w → found ≡ operationAt op → found ≡ Found.NoOperation → noStep ≡ bareOf w
+unfolding bareOf
 unknown-named w op found none =
     ap (λ f. named (byteOf 1 w) (formOf f (byteOf 2 w) (byteOf 3 w) (byteOf 4 w))) (sym none ∙ (found ∙ ap operationAt op))

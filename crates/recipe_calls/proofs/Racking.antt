@@ -100,8 +100,8 @@ module _ (g : Ran → List ℕ) (rs : List Ran) (old row : List ℕ) (i : ℕ) (
 told-many : (e : End) (rest : List ℕ) → length (endNumbers e ++ rest) ≡ 3 + length rest
 told-many Finished rest = omega arith
 told-many Budget rest = omega arith
-told-many (Trapped trap place) rest = omega arith
-told-many (Refused fault place) rest = omega arith
+told-many (Trapped trap place line) rest = omega arith
+told-many (Refused fault place line) rest = omega arith
 
 -- what would stand past a row's end; it is nowhere read
 abbrev none : Ran

@@ -25,8 +25,8 @@ use Rattle.recipe_calls.specs.Calls.{rowLeft, translationTold, listedIn,
 pub end-told : (e : End) (rest : List ℕ) → getD (endNumbers e) 0 0 ∷ getD (endNumbers e) 1 0 ∷ getD (endNumbers e) 2 0 ∷ rest ≡ endNumbers e ++ rest
 end-told Finished rest = refl
 end-told Budget rest = refl
-end-told (Trapped trap place) rest = refl
-end-told (Refused fault place) rest = refl
+end-told (Trapped trap place line) rest = refl
+end-told (Refused fault place line) rest = refl
 
 -- as many slots as a row has
 abbrev slots : List ℕ → List Step

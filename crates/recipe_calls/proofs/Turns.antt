@@ -43,7 +43,7 @@ pasted old row words at j e h k =
 
 -- what a loop's place past the end of its array would hold
 abbrev pub nop : Step
-nop = record { size = Byte; form = Two Add (record { 0 = 0 }) (record { 0 = 0 }) }
+nop = record { size = Byte; form = Two Add (record { 0 = 0 }) (record { 0 = 0 }); line = 0 }
 
 -- where the loop ends: the array is filled as far as the row goes, or whole
 pub filled :

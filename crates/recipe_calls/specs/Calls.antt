@@ -9,7 +9,7 @@ use Rattle.step.specs.declared.registers.State.{State}
 use Rattle.step.specs.declared.forms.Step.{Step}
 use Rattle.step.specs.declared.runs.Ran.{Ran}
 use Rattle.step.specs.Perform.{performOf}
-use Rattle.step.specs.Run.{runOf, endNumbers}
+use Rattle.step.specs.Run.{runOf, endNumbers, endLine}
 use Rattle.step.specs.declared.racks.Racked.{Racked}
 use Rattle.step.specs.Rack.{fitNumber, planOf, runsOf}
 use Rattle.recipes.specs.declared.types.Refused.{Refused}
@@ -62,13 +62,13 @@ listedIn listing t = rowLeft (over (map stepWord (take (t .count) (t .steps))) l
 abbrev pub translateWords : (text listing : List ℕ) → RowLeft
 translateWords text listing = listedIn listing (textListed (replicate (length listing) blank) (readOf text))
 
--- ---- listing_run: the registers and flags; the end by its numbers (`endNumbers` of the crate step), next place, steps, clocks
+-- ---- listing_run: the registers and flags; the end by its numbers (`endNumbers` of the crate step), next place, steps, clocks, and the end's text line
 
 abbrev pub stateOf : (d a : List ℕ) → (flags : ℕ) → State
 stateOf d a flags = record { d = d; a = a; flags = flagsOf flags }
 
 abbrev pub ranTold : Ran → List ℕ
-ranTold r = endNumbers (r .end) ++ (r .next ∷ r .steps ∷ r .clocks ∷ 0 ∷ 0 ∷ [])
+ranTold r = endNumbers (r .end) ++ (r .next ∷ r .steps ∷ r .clocks ∷ endLine (r .end) ∷ 0 ∷ [])
 
 abbrev pub ranLeft : Ran → StateLeft
 ranLeft r = stateLeft (r .state .d) (r .state .a) (ccrOf (r .state .flags)) (ranTold r)

@@ -19,6 +19,7 @@ use Rattle.step.specs.declared.forms.Found.{Found}
 use Rattle.step.specs.declared.forms.Found.the-variants as Found
 use Rattle.step.specs.Operations.{operationAt, operationNumber, operationOf}
 use Rattle.step.specs.Run.{arraySlots}
+use Rattle.step.specs.Lines.{withLine}
 use Rattle.recipe_calls.specs.declared.words.Made.{Made}
 use Rattle.recipe_calls.specs.declared.words.Made.the-variants.{Is, NoForm}
 
@@ -31,8 +32,8 @@ abbrev pub byteOf : (i word : ℕ) → ℕ
 byteOf i word = word / byteRadix ^ i % byteRadix
 
 -- ---- a step: byte 0 is the operation (step/specs/Operations), 1 the size (0 byte, 1 word, 2 long), 2 the source's kind (0 none, 1 a small number, 2 a
--- data register, 3 an address register), 3 the source's number, 4 the destination's register number. Byte 3 does not count where the kind is 0. Bytes 5
--- to 7 are reserved: a caller writes 0 there, as `stepWord` does; today they are not read
+-- data register, 3 an address register), 3 the source's number, 4 the destination's register number, 5 the text line. Byte 3 does not count where the kind
+-- is 0. Bytes 6 and 7 are reserved: a caller writes 0 there, as `stepWord` does; today they are not read
 
 -- a form that takes one kind of source, or either of two
 abbrev pub only : (kind wanted : ℕ) → Form → Made
@@ -63,19 +64,23 @@ formOf Found.NoOperation kind s t = NoForm
 
 -- what a word stands for that names no step: a CHK of a byte, which the machine refuses with 2
 abbrev pub noStep : Step
-noStep = record { size = Byte; form = Form.Chk (record { 0 = 0 }) (record { 0 = 0 }) }
+noStep = record { size = Byte; form = Form.Chk (record { 0 = 0 }) (record { 0 = 0 }); line = 0 }
 
 abbrev pub sizedOf : (size : ℕ) → Form → Step
 sizedOf size form =
-    cond (eqb size 0) (record { size = Byte; form = form })
-    (cond (eqb size 1) (record { size = Word; form = form }) (cond (eqb size 2) (record { size = Long; form = form }) noStep))
+    cond (eqb size 0) (record { size = Byte; form = form; line = 0 })
+    (cond (eqb size 1) (record { size = Word; form = form; line = 0 }) (cond (eqb size 2) (record { size = Long; form = form; line = 0 }) noStep))
 
 abbrev pub named : (size : ℕ) → Made → Step
 named size (Is form) = sizedOf size form
 named size NoForm = noStep
 
-unfoldable pub stepOf : (word : ℕ) → Step
-stepOf word = named (byteOf 1 word) (formOf (operationAt (byteOf 0 word)) (byteOf 2 word) (byteOf 3 word) (byteOf 4 word))
+unfoldable pub bareOf : (word : ℕ) → Step
+bareOf word = named (byteOf 1 word) (formOf (operationAt (byteOf 0 word)) (byteOf 2 word) (byteOf 3 word) (byteOf 4 word))
+
+-- with its line. A word that names no step has its line too, so that the refusal tells it
+abbrev pub stepOf : (word : ℕ) → Step
+stepOf word = withLine (byteOf 5 word) (bareOf word)
 
 -- the steps of a listing in words: as many as an array holds
 abbrev pub firstOf : List ℕ → List Step
@@ -134,4 +139,4 @@ destinationNumber (Form.Chk p q) = q .0
 unfoldable pub stepWord : Step → ℕ
 stepWord k =
     operationNumber (operationOf (k .form)) + sizeNumber (k .size) * byteRadix ^ 1 + sourceKind (k .form) * byteRadix ^ 2 + sourceNumber (k .form) * byteRadix ^ 3
-    + destinationNumber (k .form) * byteRadix ^ 4
+    + destinationNumber (k .form) * byteRadix ^ 4 + k .line * byteRadix ^ 5

@@ -11,7 +11,7 @@ ghost use mathlib.Core.Path.{_≡_};
 ghost use Prim.Native.Nat.{_+_, _*_, _<_, _≤_};
 ghost use lib.ListN.{length, take};
 ghost use Rattle.step.specs.Perform.{performOf};
-ghost use Rattle.step.specs.Run.{runOf, endNumbers};
+ghost use Rattle.step.specs.Run.{runOf, endNumbers, endLine};
 ghost use Rattle.text.specs.Wrote.{written, writing};
 ghost use Rattle.recipes.specs.Printer.{listingText, answerOf};
 ghost use Rattle.recipe_calls.specs.Words.{firstOf};
@@ -89,17 +89,30 @@ fn end_numbers(end: End) -> [u64; 3]
     match end {
         End::Finished => [0, 0, 0],
         End::Budget => [1, 0, 0],
-        End::Trapped(trap, place) => [2, class(trap) as u64, place as u64],
-        End::Refused(fault, place) => [3, step::steps::number(fault) as u64, place as u64],
+        End::Trapped(trap, place, _) => [2, class(trap) as u64, place as u64],
+        End::Refused(fault, place, _) => [3, step::steps::number(fault) as u64, place as u64],
     }
 }
 
-// What is told of a run: its end, the next place, the steps done and the sum of their figures.
+// The text line of the step that was trapped or refused.
+fn end_line(end: End) -> u8
+    ensures { λ r. ⌜ r ≡ endLine end ⌝ }
+{
+    match end {
+        End::Finished => 0,
+        End::Budget => 0,
+        End::Trapped(_, _, line) => line,
+        End::Refused(_, _, line) => line,
+    }
+}
+
+// What is told of a run: its end, the next place, the steps done, the sum of their figures, and the end's text line.
 fn ran_told(ran: Ran) -> [u64; TOLD]
     ensures { λ r. ⌜ r ≡ ranTold ran ⌝ }
 {
     let ended = ran.end;
     let end = end_numbers(ended);
+    let line = end_line(ended);
     [
         end[0],
         end[1],
@@ -107,13 +120,14 @@ fn ran_told(ran: Ran) -> [u64; TOLD]
         ran.next as u64,
         ran.steps as u64,
         ran.clocks,
-        0,
+        line as u64,
         0,
     ]
 }
 
 // Runs the first `SLOTS` steps of a listing from a place, with a budget. `told` gets the end, the trap's class or the refusal's
-// number, the place of either, the next place, the steps done and the sum of their figures.
+// number, the place of either, the next place, the steps done, the sum of their figures, and the text line of the step that was
+// trapped or refused.
 pub fn listing_run(
     listing: &[u64],
     d: &mut [u32; 8],

@@ -2,7 +2,7 @@
 // In a contract `only` and `either` are the definitions of specs/, not the functions here.
 ghost use mathlib.Core.Path.{_≡_};
 ghost use Prim.Native.Nat.{_%_};
-ghost use Rattle.recipe_calls.specs.Words.{byteRadix, only, either, madeOf, noStep, sizedOf, stepOf};
+ghost use Rattle.recipe_calls.specs.Words.{byteRadix, only, either, madeOf, noStep, sizedOf, bareOf, stepOf};
 ghost use Rattle.recipe_calls.specs.Words.{sizeNumber, registerKind, registerNumber, countKind, countNumber, sourceKind, sourceNumber, destinationNumber, stepWord};
 use alu::types::Size;
 use step::forms::Count;
@@ -14,6 +14,7 @@ use step::forms::Step;
 use step::forms::number;
 use step::forms::operation_at;
 use step::forms::operation_of;
+use step::forms::with_line;
 use step::registers::A;
 use step::registers::D;
 
@@ -101,6 +102,7 @@ pub(crate) fn no_step() -> Step
     Step {
         size: Size::Byte,
         form: Form::Chk(D(0), D(0)),
+        line: 0,
     }
 }
 
@@ -111,14 +113,17 @@ fn sized(size: u8, form: Form) -> Step
         0 => Step {
             size: Size::Byte,
             form,
+            line: 0,
         },
         1 => Step {
             size: Size::Word,
             form,
+            line: 0,
         },
         2 => Step {
             size: Size::Long,
             form,
+            line: 0,
         },
         _ => no_step(),
     }
@@ -130,9 +135,9 @@ fn byte(word: u64) -> u8
     (word % 0x100) as u8
 }
 
-// The step that a word names.
-pub(crate) fn step_of(word: u64) -> Step
-    ensures { λ r. ⌜ r ≡ stepOf word ⌝ }
+// The step that a word names, without its line.
+fn bare_of(word: u64) -> Step
+    ensures { λ r. ⌜ r ≡ bareOf word ⌝ }
 {
     let Found::Is(operation) = operation_at(byte(word)) else {
         return no_step();
@@ -147,6 +152,15 @@ pub(crate) fn step_of(word: u64) -> Step
         Made::Is(form) => sized(byte(word / 0x100), form),
         Made::NoForm => no_step(),
     }
+}
+
+// The step that a word names. One that names none has its line all the same.
+pub(crate) fn step_of(word: u64) -> Step
+    ensures { λ r. ⌜ r ≡ stepOf word ⌝ }
+{
+    let step = bare_of(word);
+    let line = byte(word / 0x100_0000_0000);
+    with_line(step, line)
 }
 
 // ---- from a step to its word
@@ -250,4 +264,5 @@ pub(crate) fn step_word(step: Step) -> u64
         + source_kind(form) as u64 * 0x1_0000
         + source_number(form) as u64 * 0x100_0000
         + destination_number(form) as u64 * 0x1_0000_0000
+        + step.line as u64 * 0x100_0000_0000
 }

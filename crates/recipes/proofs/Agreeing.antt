@@ -27,7 +27,7 @@ use Rattle.text.specs.Text.{ascii, sameBytes, before, after}
 use Rattle.recipes.specs.Recipe.{linesMax, passes, atLine, noRefusal, isNothing, isWidth, recipeLines, unused, lineRefusal, Names, Accepted}
 use Rattle.recipes.specs.Reader.{refusedAt, verbOf, past, onlyDigit, fieldsOf, lineChecked, thenChecked, lineOf, orSlip, linesOf, widthDigit, widthLine, fromFirst, readOf}
 use Rattle.step.specs.Lent.{over}
-use Rattle.recipes.specs.Listing.{linesPass, tested, listingOf, stepsOf, listed, translateOf}
+use Rattle.recipes.specs.Listing.{linesPass, tested, numberedOf, stepsOf, listed, translateOf}
 use Rattle.recipes.proofs.Accepting.{Good, passes-names, names-pass, tests-agree}
 use Rattle.recipes.proofs.Columns.{Slips, line-slips}
 
@@ -146,7 +146,7 @@ pub good-passes : {R : Type 0} (refuse : Refused → R) (r : Recipe) (go : R) �
 good-passes refuse r go g = rw (g .width, le-leb (r .count) linesMax (g .few)) (lines-pass refuse (r .width) 2 (recipeLines r) go (g .lines))
 
 pub good-translates : (r : Recipe) (slots : List Step) → Good r → stepsOf (r .width) (recipeLines r) ≤ length slots
-    → translateOf r slots ≡ listed noRefusal (stepsOf (r .width) (recipeLines r)) (over (listingOf (r .width) (recipeLines r)) slots)
+    → translateOf r slots ≡ listed noRefusal (stepsOf (r .width) (recipeLines r)) (over (numberedOf (r .width) 2 (recipeLines r)) slots)
 unfolding translateOf
 good-translates r slots g h =
     good-passes (λ k. listed k 0 slots) r _ g ∙ rw (le-leb (stepsOf (r .width) (recipeLines r)) (length slots) h)
@@ -159,7 +159,7 @@ translated-good r slots =
     (λ k e h. absurd (false≢true (sym e ∙ h))) r _ tt (λ g. room g (leb (stepsOf (r .width) (recipeLines r)) (length slots)) refl)
   where
     room : Good r → (t : Bool) → leb (stepsOf (r .width) (recipeLines r)) (length slots) ≡ t
-        → isNothing (cond t (listed noRefusal (stepsOf (r .width) (recipeLines r)) (over (listingOf (r .width) (recipeLines r)) slots)) (listed (atLine NoSpace 0) 0 slots) .refused) ≡ true
+        → isNothing (cond t (listed noRefusal (stepsOf (r .width) (recipeLines r)) (over (numberedOf (r .width) 2 (recipeLines r)) slots)) (listed (atLine NoSpace 0) 0 slots) .refused) ≡ true
         → Good r × (stepsOf (r .width) (recipeLines r) ≤ length slots)
     room g true e h = (g, leb-true (stepsOf (r .width) (recipeLines r)) (length slots) e)
     room g false e h = absurd (false≢true h)
@@ -167,5 +167,5 @@ translated-good r slots =
 pub read-translates : (text : List ℕ) (slots : List Step) → isNothing (readOf text .refused) ≡ true
     → let r = readOf text .recipe in
     stepsOf (r .width) (recipeLines r) ≤ length slots
-    → translateOf r slots ≡ listed noRefusal (stepsOf (r .width) (recipeLines r)) (over (listingOf (r .width) (recipeLines r)) slots)
+    → translateOf r slots ≡ listed noRefusal (stepsOf (r .width) (recipeLines r)) (over (numberedOf (r .width) 2 (recipeLines r)) slots)
 read-translates text slots e h = good-translates (readOf text .recipe) slots (read-sound text e) h

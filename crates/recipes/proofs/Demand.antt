@@ -3,6 +3,7 @@
 --     demand-3           Demand3 of specs/Demand
 --     halted-behind      HaltedBehind: halted behind the steps of its first lines, the registers and flags are as those lines leave them
 --     one-by-one         CalledOneByOne: it holds for whoever calls the translator and the run one by one; from-text: and the reader before them
+--     each-step          EachStep: each step of a translated recipe is one of the line that it carries
 --     each-box           EachBox: it holds for each box of a rack
 --     called-whole, called-halted   the same in the words of the contracts of `translate` and `run`
 --     steps-few          an accepted recipe has at most `stepsMax` steps
@@ -10,8 +11,8 @@
 --     ruled-registers    the rule's numbers determine the registers
 use mathlib.Core.Path.{_≡_, refl, sym, ap, ap₂, _∙_, subst, subst⁻¹}
 use mathlib.Core.Bool.{Bool, true}
-use mathlib.Core.List.{List, [], _∷_, _++_, append-nil}
-use Prim.Native.Nat.{ℕ, zero, suc, _+_, _-_, _*_, _/_, _≤_}
+use mathlib.Core.List.{List, [], _∷_, _++_, map, append-nil, map-append}
+use Prim.Native.Nat.{ℕ, zero, suc, _+_, _-_, _*_, _/_, _≤_, _<_}
 use native.Mathlib.Omega.{arith}
 use native.Mathlib.Nat.{add-zero, zero-add, add-assoc}
 use lib.ListN.{length, set, take, drop, length-append, getD}
@@ -20,13 +21,17 @@ use Rattle.alu.specs.declared.types.Flags.{Flags}
 use Rattle.step.specs.declared.registers.State.{State}
 use Rattle.step.specs.declared.forms.Step.{Step}
 use Rattle.step.specs.declared.steps.Performed.{Performed}
+use Rattle.step.specs.declared.runs.End.{End}
 use Rattle.step.specs.declared.runs.End.the-variants.{Finished}
+use Rattle.step.specs.declared.runs.End.the-variants as End
 use Rattle.step.specs.declared.runs.Ran.{Ran}
 use Rattle.step.specs.Perform.{performOf}
 use Rattle.step.specs.Run.{ends, runOf, after}
-use Rattle.step.specs.Parts.{goesOn, runInParts, total}
+use Rattle.step.specs.Parts.{goesOn, runInParts, PartsGo, total}
+use Rattle.step.specs.Lines.{bare, bareEnd, bareRan}
 use Rattle.step.specs.Rack.{stateOf, boxInParts}
 use Rattle.step.proofs.Laws.{spot-end, run-end}
+use Rattle.step.proofs.Lines.{blind, goes-bare, parts-bare, parts-go-bare}
 use Rattle.step.proofs.Boxes.{plan-fitting, rack-parts}
 use Rattle.step.proofs.Promises.{Alu, Legal, Steps, performs}
 use Rattle.step.proofs.Leading.{All, executed, figures, Stands, stands-first, stands-left, stands-right, Leads, leads-none, leads-then, leads-like, leads-through, leads-in-parts, idle}
@@ -39,14 +44,15 @@ use Rattle.recipes.specs.declared.types.Codes.the-variants.{Known}
 use Rattle.recipes.specs.Recipe.{isNothing, isWidth, target, recipeLines, Names, Accepted}
 use Rattle.recipes.specs.Reader.{readOf}
 use Rattle.step.specs.Lent.{over}
-use Rattle.recipes.specs.Listing.{stepsMax, lineSteps, listingOf, stepsAt, stepsOf, translated, translateOf, clocksOf}
+use Rattle.recipes.specs.Listing.{stepsMax, lineSteps, listingOf, numberedOf, stepsAt, stepsOf, translated, translateOf, clocksOf, blank}
 use Rattle.recipes.specs.Rule.{numbersOf, registersOf, codesOf, Account, accountOf, ruleOf, rulesOf}
-use Rattle.recipes.specs.Demand.{EightLongs, Holds, Ruled, Meets, Finishes, Demand3, HaltedBehind, CalledOneByOne, FromText, EachBox}
-use Rattle.recipes.proofs.Steps.{line-length, listing-steps}
+use Rattle.recipes.specs.Demand.{EightLongs, Holds, Ruled, Meets, Finishes, Demand3, HaltedBehind, CalledOneByOne, FromText, EachStep, EachBox}
+use Rattle.recipes.proofs.Steps.{line-length, listing-steps, numbered-steps}
+use Rattle.recipes.proofs.Places.{numbered-at, place-at}
 use Rattle.recipes.proofs.Accepting.{Good, width-all, width-is}
 use Rattle.recipes.proofs.Settling.{few-steps}
 use Rattle.recipes.proofs.Agreeing.{read-sound, good-translates, translated-good}
-use Rattle.recipes.proofs.Legal.{line-legal, listing-legal, figure-same}
+use Rattle.recipes.proofs.Legal.{line-legal, listing-legal, figure-same, numbered-bare}
 use Rattle.recipes.proofs.Numbers.{numbers-stored, longs-kept, registers-back}
 use Rattle.recipes.proofs.Doing.{Does, num, line-does}
 
@@ -127,9 +133,11 @@ came-through n ls more h s ok =
     (figures-printed ks s (listing-legal (suc n) ls h))
     (record { state = came .state; leads = leads-like performOf (ks ++ more) (came .leads) _ _ refl (zero-add _); rule = came .rule })
 
-pub demand-3 : Demand3
-demand-3 zero pos ls h s ok b bs enough = absurd (omega arith)
-demand-3 (suc n) pos ls h s ok b bs enough =
+-- the listing without lines
+bare-finishes : (w : ℕ) → 0 < w → (ls : List Line) → Accepted w ls → (s : State) → EightLongs (s .d) → (b : ℕ) (bs : List ℕ) → stepsOf w ls ≤ total b bs
+    → Finishes w ls (listingOf w ls) s b bs
+bare-finishes zero pos ls h s ok b bs enough = absurd (omega arith)
+bare-finishes (suc n) pos ls h s ok b bs enough =
     let l = listingOf (suc n) ls in
     let steps = stepsOf (suc n) ls in
     let more = total b bs - steps in
@@ -144,9 +152,33 @@ demand-3 (suc n) pos ls h s ok b bs enough =
       meets = subst⁻¹ (Meets (suc n) ls s) parts (record { rule = came .rule; next = refl; steps = add-zero _; clocks = add-zero _ });
     }
 
-pub halted-behind : HaltedBehind
-halted-behind zero pos ls h more s ok b bs there = absurd (omega arith)
-halted-behind (suc n) pos ls h more s ok b bs there =
+-- what is said of a run is said of it with any lines: none of it is the line that an end tells
+bare-meets : (w : ℕ) (ls : List Line) (s : State) (r : Ran) → Meets w ls s (bareRan r) → Meets w ls s r
+bare-meets w ls s r m = record { rule = m .rule; next = m .next; steps = m .steps; clocks = m .clocks }
+
+bare-finished : (e : End) → bareEnd e ≡ Finished → e ≡ Finished
+bare-finished Finished h = refl
+bare-finished End.Budget h = h
+bare-finished (End.Trapped trap p n) h = cc
+bare-finished (End.Refused fault p n) h = cc
+
+pub demand-3 : Demand3
+demand-3 w pos ls h l lines s ok b bs enough =
+    let f = subst⁻¹ (λ (l : List Step). Finishes w ls l s b bs) lines (bare-finishes w pos ls h s ok b bs enough) in
+    let same = parts-bare performOf blind l bs s 0 b in
+    let r = runInParts performOf l s 0 b bs in
+    record {
+      parts = parts-go-bare performOf blind l bs s 0 b (f .parts);
+      end = bare-finished (r .end) (ap (λ (r : Ran). r .end) same ∙ f .end);
+      meets = bare-meets w ls s r (subst⁻¹ (Meets w ls s) same (f .meets));
+    }
+
+-- halted behind the listing without lines
+bare-halted : (w : ℕ) → 0 < w → (ls : List Line) → Accepted w ls → (more : List Step) → (s : State) → EightLongs (s .d) → (b : ℕ) (bs : List ℕ) → total b bs ≡ stepsOf w ls
+    → let l = listingOf w ls ++ more in
+    let r = runInParts performOf l s 0 b bs in PartsGo performOf l s 0 b bs × ((goesOn (r .end) ≡ true) × Meets w ls s r)
+bare-halted zero pos ls h more s ok b bs there = absurd (omega arith)
+bare-halted (suc n) pos ls h more s ok b bs there =
     let l = listingOf (suc n) ls ++ more in
     let steps = stepsOf (suc n) ls in
     let clocks = clocksOf (listingOf (suc n) ls) in
@@ -166,14 +198,25 @@ halted-behind (suc n) pos ls h more s ok b bs there =
       ),
     )
 
+pub halted-behind : HaltedBehind
+halted-behind w pos ls h l more lines s ok b bs there =
+    let k = l ++ more in
+    let bared : map bare k ≡ listingOf w ls ++ map bare more = map-append bare l more ∙ ap (λ (l : List Step). l ++ map bare more) lines in
+    let f = subst⁻¹ (λ (k : List Step). let r = runInParts performOf k s 0 b bs in PartsGo performOf k s 0 b bs × ((goesOn (r .end) ≡ true) × Meets w ls s r)) bared (bare-halted w pos ls h (map bare more) s ok b bs there) in
+    let same = parts-bare performOf blind k bs s 0 b in
+    let r = runInParts performOf k s 0 b bs in (
+      parts-go-bare performOf blind k bs s 0 b (f .0),
+      (sym (goes-bare (r .end)) ∙ (ap (λ (r : Ran). goesOn (r .end)) same ∙ f .1 .0), bare-meets w ls s r (subst⁻¹ (Meets w ls s) same (f .1 .1))),
+    )
+
 -- ---- for the code
 
 pub steps-few : (r : Recipe) → Good r → stepsOf (r .width) (recipeLines r) ≤ stepsMax
 steps-few r g = few-steps r (width-is (r .width) (g .width) .1) (g .few)
 
--- what was translated is the listing: its steps are the first `count` slots
+-- what was translated is the listing with its lines: its steps are the first `count` slots
 translated-listing : (r : Recipe) (slots : List Step) → isNothing (translateOf r slots .refused) ≡ true
-    → let t = translateOf r slots in (t .count ≡ stepsOf (r .width) (recipeLines r)) × (take (t .count) (t .steps) ≡ listingOf (r .width) (recipeLines r))
+    → let t = translateOf r slots in (t .count ≡ stepsOf (r .width) (recipeLines r)) × (take (t .count) (t .steps) ≡ numberedOf (r .width) 2 (recipeLines r))
 translated-listing r slots e =
     let g = translated-good r slots e in
     let w = r .width in
@@ -181,7 +224,7 @@ translated-listing r slots e =
     let is = good-translates r slots (g .0) (g .1) in (
       ap (λ (t : Listing). t .count) is,
       ap (λ (t : Listing). take (t .count) (t .steps)) is
-          ∙ (ap (λ (n : ℕ). take n (over (listingOf w ls) slots)) (sym (listing-steps w ls)) ∙ take-append-seam (listingOf w ls) (drop (length (listingOf w ls)) slots)),
+          ∙ (ap (λ (n : ℕ). take n (over (numberedOf w 2 ls) slots)) (sym (numbered-steps w 2 ls)) ∙ take-append-seam (numberedOf w 2 ls) (drop (length (numberedOf w 2 ls)) slots)),
     )
 
 pub one-by-one : CalledOneByOne
@@ -191,7 +234,34 @@ one-by-one r slots e s ok b bs enough =
     let g = translated-good r slots e .0 in
     let is = translated-listing r slots e in
     subst⁻¹ (λ (l : List Step). Finishes w ls l s b bs) (is .1)
-    (demand-3 w (width-is w (g .width) .0) ls (g .lines) s ok b bs (subst (λ (n : ℕ). n ≤ total b bs) (is .0) enough))
+    (demand-3 w (width-is w (g .width) .0) ls (g .lines) (numberedOf w 2 ls) (numbered-bare w 2 ls (g .lines)) s ok b bs (subst (λ (n : ℕ). n ≤ total b bs) (is .0) enough))
+
+-- the step at a place, taken among the first or among all
+taken-at : (n : ℕ) (l : List Step) (p : ℕ) → p < n → getD (take n l) p blank ≡ getD l p blank
+taken-at zero l p h = absurd (omega arith)
+taken-at (suc n) [] p h = refl
+taken-at (suc n) (k ∷ l) zero h = refl
+taken-at (suc n) (k ∷ l) (suc p) h = taken-at n l p (omega arith)
+
+pub each-step : EachStep
+each-step r slots e p h =
+    let w = r .width in
+    let ls = recipeLines r in
+    let t = translateOf r slots in
+    let is = translated-listing r slots e in
+    let found = place-at w ls p (subst (λ (n : ℕ). p < n) (is .0) h) in
+    let at = found .1 .1 in
+    record {
+      line = found .0;
+      index = found .1 .0;
+      there = at .line;
+      place = at .place;
+      within = at .step;
+      step =
+          sym (taken-at (t .count) (t .steps) p h)
+          ∙ (ap (λ (l : List Step). getD l p blank) (is .1)
+          ∙ (ap (λ (q : ℕ). getD (numberedOf w 2 ls) q blank) (at .place) ∙ sym (numbered-at w 2 ls (found .0) (found .1 .0) (at .line) (at .step))));
+    }
 
 pub from-text : FromText
 from-text text slots e room =
@@ -200,10 +270,9 @@ from-text text slots e room =
     ap (λ (t : Listing). isNothing (t .refused)) (good-translates r slots g (omega (arith, steps-few r g)))
 
 pub each-box : EachBox
-each-box w some ls ok sets starts answers fits i d inside longs first b bs enough =
-    let l = listingOf w ls in
+each-box w some ls ok l lines sets starts answers fits i d inside longs first b bs enough =
     let s = getD sets i (stateOf d) in
-    let whole = demand-3 w some ls ok s longs b bs enough in
+    let whole = demand-3 w some ls ok l lines s longs b bs enough in
     let box : boxInParts performOf l d i sets starts answers b bs ≡ runInParts performOf l s 0 b bs =
     rack-parts performOf l d i sets starts answers (d .next) b bs (plan-fitting (length sets) (length starts) (length answers) fits) inside
     ∙ ap (λ (p : ℕ). runInParts performOf l s p b bs) first in

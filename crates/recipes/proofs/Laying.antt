@@ -8,13 +8,14 @@ use lib.ListN.{length, take, getD, set, length-replicate}
 use Rattle.step.specs.declared.forms.Step.{Step}
 use Rattle.step.specs.Run.{arraySlots}
 use Rattle.step.specs.Lent.{over}
+use Rattle.step.specs.Lines.{withLine}
 use Rattle.step.proofs.Rows.{over-next}
 use Rattle.recipes.specs.declared.types.Line.{Line}
 use Rattle.recipes.specs.Recipe.{unused, Names, Accepted}
-use Rattle.recipes.specs.Listing.{lineSteps, listingOf, stepsAt, stepsOf, blank, blanks}
+use Rattle.recipes.specs.Listing.{lineSteps, numberedOf, stepsAt, stepsOf, blank, blanks}
 use Rattle.recipes.specs.Making.{Layable, jobOf, StepOfJob}
-use Rattle.recipes.proofs.Steps.{listing-steps, steps-at-most, steps-more, steps-prefix}
-use Rattle.recipes.proofs.Places.{listing-at, number-fits}
+use Rattle.recipes.proofs.Steps.{numbered-steps, steps-at-most, steps-more, steps-prefix}
+use Rattle.recipes.proofs.Places.{number-fits, numbered-at, At}
 
 accepted-at : (w : ℕ) (ls : List Line) (n k : ℕ) → Accepted w (take n ls) → k < n → k < length ls → Names (8 / w) (getD ls k unused)
 accepted-at w [] n k a h l = absurd (omega arith)
@@ -22,16 +23,10 @@ accepted-at w (x ∷ ls) zero k a h l = absurd (omega arith)
 accepted-at w (x ∷ ls) (suc n) zero a h l = a .0
 accepted-at w (x ∷ ls) (suc n) (suc k) a h l = accepted-at w ls n k (a .1) (omega arith) (omega arith)
 
--- place `at` is step j of line k, one of the first `many`
-pub record At (w many : ℕ) (lines : List Line) (k j at : ℕ) : Type 0 where
-  pub line : k < many
-  pub step : j < stepsAt (getD lines k unused .verb) * w
-  pub place : at ≡ stepsOf w (take k lines) + j
-
 -- the steps before place `at` stand in the slots
 pub record Laid (w count : ℕ) (lines : List Line) (steps : List Step) (k j at : ℕ) : Type 0 where
   pub ready : Layable w lines count
-  pub placed : steps ≡ over (take at (listingOf w lines)) blanks
+  pub placed : steps ≡ over (take at (numberedOf w 2 lines)) blanks
   pub within : at ≤ count
   pub spot : at < count → At w (ready .many) lines k j at
 
@@ -83,19 +78,23 @@ module _ (w count : ℕ) (lines : List Line) (steps : List Step) (k j at : ℕ) 
   pub spot-small : j < 8
   spot-small = step-small w (getD lines k unused) j (s .ready .width (omega arith) .1) (here .step)
 
-  -- its step is stored
-  stored : set steps at (getD (lineSteps w (getD lines k unused)) j blank) ≡ over (take (at + 1) (listingOf w lines)) blanks
+  -- its step, with its text line
+  abbrev pub next-step : Step
+  next-step = withLine (k + 2) (getD (lineSteps w (getD lines k unused)) j blank)
+
+  -- is stored
+  stored : set steps at next-step ≡ over (take (at + 1) (numberedOf w 2 lines)) blanks
   stored =
       let one : at + 1 ≡ suc at = omega arith in
-      let long = listing-steps w lines in
+      let long = numbered-steps w 2 lines in
       let most = steps-prefix w (s .ready .many) lines in
       let c = s .ready .counted in
       let d = s .ready .within in
       let slots : length blanks ≡ arraySlots = length-replicate arraySlots blank in
-      rw (s .placed, listing-at w lines k j line-there (here .step), ← here .place, one) (over-next (listingOf w lines) blanks at blank (omega arith) (omega arith))
+      rw (s .placed, numbered-at w 2 lines k j line-there (here .step), ← here .place, one) (over-next (numberedOf w 2 lines) blanks at blank (omega arith) (omega arith))
 
   -- a step of the same line comes next
-  pub laid-step : (j + 1 ≡ stepsAt (getD lines k unused .verb) * w → ⊥) → Laid w count lines (set steps at (getD (lineSteps w (getD lines k unused)) j blank)) k (j + 1) (at + 1)
+  pub laid-step : (j + 1 ≡ stepsAt (getD lines k unused .verb) * w → ⊥) → Laid w count lines (set steps at next-step) k (j + 1) (at + 1)
   laid-step n =
       record {
         ready = s .ready;
@@ -105,7 +104,7 @@ module _ (w count : ℕ) (lines : List Line) (steps : List Step) (k j at : ℕ) 
       }
 
   -- the first step of the next line comes next
-  pub laid-line : j + 1 ≡ stepsAt (getD lines k unused .verb) * w → Laid w count lines (set steps at (getD (lineSteps w (getD lines k unused)) j blank)) (k + 1) 0 (at + 1)
+  pub laid-line : j + 1 ≡ stepsAt (getD lines k unused .verb) * w → Laid w count lines (set steps at next-step) (k + 1) 0 (at + 1)
   laid-line e = record { ready = s .ready; placed = stored; within = omega arith; spot = λ more. record { line = further more; step = some w (getD lines (k + 1) unused) (s .ready .width (omega arith) .0); place = reached } }
     where
       reached : at + 1 ≡ stepsOf w (take (k + 1) lines) + 0

@@ -1,12 +1,14 @@
 -- Laws of the steps of a line by their places: what the translator makes one at a time is what the definition lists. Assumes nothing.
 --     part-at      the steps at one register
 --     line-at      step j of a line
---     listing-at   and of a listing
+--     numbered-at  and of a listing with its text lines
+--     place-at     and back from a place to the line and its step
 use Prim.Native.Nat.{ℕ, zero, suc, _+_, _-_, _*_, _/_, _%_, _≤_, _<_}
 use mathlib.Core.Bool.{Bool, true, false, cond, _&&_}
-use mathlib.Core.List.{List, [], _∷_, _++_}
+use mathlib.Core.List.{List, [], _∷_, _++_, map}
 use mathlib.Core.Path.{_≡_, refl, sym, ap, ap₂, _∙_}
 use native.Mathlib.Nat.{div-lt-iff-lt-mul, mod-lt, div-add-mod, div-mul-le-self, mul-le-mul-right}
+use native.Mathlib.Decide.{decLt}
 use native.Mathlib.Omega.{arith}
 use borrow.Author.Tests.{ne-eqb}
 use lib.Dec.{eqb}
@@ -14,13 +16,14 @@ use lib.ListN.{length, take, getD, List·getD-append}
 use lib.Seq.{getD-append-add}
 use Rattle.step.specs.declared.forms.Step.{Step}
 use Rattle.step.specs.declared.forms.OneOp.the-variants.{Clr}
+use Rattle.step.specs.Lines.{withLine}
 use Rattle.recipes.specs.declared.lines.Act.the-variants.{One}
 use Rattle.recipes.specs.declared.types.Verb.{Verb}
 use Rattle.recipes.specs.declared.types.Line.{Line}
 use Rattle.recipes.specs.Recipe.{wayOf, isCopy, target, unused}
-use Rattle.recipes.specs.Listing.{stepOf, clrStep, firstStep, otherStep, withClr, highestFirst, risingRest, fallingRest, rising, falling, lineSteps, listingOf, stepsAt, stepsOf, blank}
+use Rattle.recipes.specs.Listing.{stepOf, clrStep, firstStep, otherStep, withClr, highestFirst, risingRest, fallingRest, rising, falling, lineSteps, numberedOf, stepsAt, stepsOf, blank}
 use Rattle.recipes.specs.Making.{actAt, jobOf, jobStep}
-use Rattle.recipes.proofs.Steps.{there-length, line-length, steps-at-most}
+use Rattle.recipes.proofs.Steps.{there-length, line-length, numbered-length, steps-at-most}
 
 -- ---- the steps at one register
 
@@ -133,16 +136,50 @@ number-fits w a h =
     let least : suc a * w ≤ 8 / w * w = mul-le-mul-right w h in
     omega arith
 
--- ---- a listing
+-- ---- a listing with its lines, of which the first is text line n
 
-pub listing-at : (w : ℕ) (ls : List Line) (k j : ℕ) → k < length ls → j < stepsAt (getD ls k unused .verb) * w
-    → getD (lineSteps w (getD ls k unused)) j blank ≡ getD (listingOf w ls) (stepsOf w (take k ls) + j) blank
-unfolding listingOf stepsOf
-listing-at w [] k j h i = absurd (omega arith)
-listing-at w (l ∷ ls) zero j h i =
+lined-at : (n : ℕ) (ks : List Step) (j : ℕ) → j < length ks → withLine n (getD ks j blank) ≡ getD (map (withLine n) ks) j blank
+lined-at n [] j h = absurd (omega arith)
+lined-at n (k ∷ ks) zero h = refl
+lined-at n (k ∷ ks) (suc j) h = lined-at n ks j (omega arith)
+
+pub numbered-at : (w n : ℕ) (ls : List Line) (k j : ℕ) → k < length ls → j < stepsAt (getD ls k unused .verb) * w
+    → withLine (k + n) (getD (lineSteps w (getD ls k unused)) j blank) ≡ getD (numberedOf w n ls) (stepsOf w (take k ls) + j) blank
+unfolding numberedOf stepsOf
+numbered-at w n [] k j h i = absurd (omega arith)
+numbered-at w n (l ∷ ls) zero j h i =
     let z : 0 + j ≡ j = omega arith in
+    let first : 0 + n ≡ n = omega arith in
     let m = line-length w l in
-    rw z (sym (List·getD-append (lineSteps w l) (listingOf w ls) blank j (omega arith)))
-listing-at w (l ∷ ls) (suc k) j h i =
-    let e : stepsAt (l .verb) * w + stepsOf w (take k ls) + j ≡ length (lineSteps w l) + (stepsOf w (take k ls) + j) = let m = line-length w l in omega arith in
-    listing-at w ls k j (omega arith) i ∙ sym (ap (λ (x : ℕ). getD (lineSteps w l ++ listingOf w ls) x blank) e ∙ getD-append-add (lineSteps w l) (listingOf w ls) (stepsOf w (take k ls) + j) blank)
+    let inside : j < length (map (withLine n) (lineSteps w l)) = let m = numbered-length w n l in omega arith in
+    rw (z, first) (lined-at n (lineSteps w l) j (omega arith) ∙ sym (List·getD-append (map (withLine n) (lineSteps w l)) (numberedOf w (suc n) ls) blank j inside))
+numbered-at w n (l ∷ ls) (suc k) j h i =
+    let ks = map (withLine n) (lineSteps w l) in
+    let e : stepsAt (l .verb) * w + stepsOf w (take k ls) + j ≡ length ks + (stepsOf w (take k ls) + j) = let m = numbered-length w n l in omega arith in
+    let later : suc k + n ≡ k + suc n = omega arith in
+    ap (λ (m : ℕ). withLine m (getD (lineSteps w (getD ls k unused)) j blank)) later
+    ∙ (numbered-at w (suc n) ls k j (omega arith) i
+    ∙ sym (ap (λ (x : ℕ). getD (ks ++ numberedOf w (suc n) ls) x blank) e ∙ getD-append-add ks (numberedOf w (suc n) ls) (stepsOf w (take k ls) + j) blank))
+
+-- place `at` is step j of line k, one of the first `many`
+pub record At (w many : ℕ) (lines : List Line) (k j at : ℕ) : Type 0 where
+  pub line : k < many
+  pub step : j < stepsAt (getD lines k unused .verb) * w
+  pub place : at ≡ stepsOf w (take k lines) + j
+
+-- back from a place
+abbrev pub Spot : (w : ℕ) → List Line → (at : ℕ) → Type 0
+Spot w lines at = (k : ℕ) × ((j : ℕ) × At w (length lines) lines k j at)
+
+pub place-at : (w : ℕ) (ls : List Line) (p : ℕ) → p < stepsOf w ls → Spot w ls p
+unfolding stepsOf
+place-at w [] p h = absurd (omega arith)
+place-at w (l ∷ ls) p h = go (decLt p (stepsAt (l .verb) * w))
+  where
+    go : Dec (p < stepsAt (l .verb) * w) → Spot w (l ∷ ls) p
+    go (yes inside) = (0, (p, record { line = omega arith; step = inside; place = omega arith }))
+    go (no behind) =
+        let r = place-at w ls (p - stepsAt (l .verb) * w) (omega arith) in
+        let e = r .1 .1 .place in
+        let h = r .1 .1 .line in
+        (suc (r .0), (r .1 .0, record { line = omega arith; step = r .1 .1 .step; place = omega arith }))

@@ -15,7 +15,7 @@ use Rattle.recipes.specs.Printer.{stepText, stepsText}
 
 -- what a loop's place past the end of its array would hold
 abbrev pub nop : Step
-nop = record { size = Byte; form = Two Add (record { 0 = 0 }) (record { 0 = 0 }) }
+nop = record { size = Byte; form = Two Add (record { 0 = 0 }) (record { 0 = 0 }); line = 0 }
 
 steps-snoc : (p : ℕ) (ks : List Step) (k : Step) → stepsText p (ks ++ (k ∷ [])) ≡ stepsText p ks ++ stepText (p + length ks) k
 unfolding stepsText

@@ -76,7 +76,7 @@ destination-short (Chk p q) = marked-short 68 (q .0)
 
 -- ---- lines and texts
 
-step-short : (p : ℕ) (k : Step) → length (stepText p k) ≤ 72
+step-short : (p : ℕ) (k : Step) → length (stepText p k) ≤ 93
 unfolding stepText
 step-short p k =
     let a = decimal-short p in
@@ -84,14 +84,15 @@ step-short p k =
     let c = size-short (k .size) in
     let d = source-short (k .form) in
     let e = destination-short (k .form) in
-    rw (length-append, length-append, length-append, length-append, length-append, length-append, length-append, length-append, length-append) (omega arith)
+    let f = marked-short 9 (k .line) in
+    rw (length-append, length-append, length-append, length-append, length-append, length-append, length-append, length-append, length-append, length-append) (omega arith)
 
-steps-short : (p : ℕ) (ks : List Step) → length (stepsText p ks) ≤ 72 * length ks
+steps-short : (p : ℕ) (ks : List Step) → length (stepsText p ks) ≤ 93 * length ks
 unfolding stepsText
 steps-short p [] = omega arith
 steps-short p (k ∷ ks) = let a = step-short p k in let b = steps-short (suc p) ks in rw length-append (omega arith)
 
-listing-short : (w : ℕ) (ks : List Step) → length (listingText w ks) ≤ 76 + 72 * length ks
+listing-short : (w : ℕ) (ks : List Step) → length (listingText w ks) ≤ 76 + 93 * length ks
 unfolding listingText
 listing-short w ks =
     let a = marked-short 9 w in

@@ -25,9 +25,9 @@ use Rattle.recipes.specs.declared.types.Translated.{Translated}
 use Rattle.recipes.specs.declared.types.Listing.{Listing}
 use Rattle.recipes.specs.Recipe.{linesMax, atLine, noRefusal, recipeLines, Accepted}
 use Rattle.step.specs.Lent.{over}
-use Rattle.recipes.specs.Listing.{stepsMax, listingOf, stepsOf, listed, translateOf, translated, blanks}
+use Rattle.recipes.specs.Listing.{stepsMax, numberedOf, stepsOf, listed, translateOf, translated, blanks}
 use Rattle.recipes.specs.Making.{translation, noSteps, judgeOf, Layable, settledOf}
-use Rattle.recipes.proofs.Steps.{listing-steps, listing-prefix, steps-most}
+use Rattle.recipes.proofs.Steps.{numbered-steps, numbered-prefix, steps-most}
 use Rattle.recipes.proofs.Accepting.{width-is, tests-agree}
 
 -- a recipe's lines take at most `stepsMax` steps
@@ -53,10 +53,10 @@ ready r n =
 
 -- the translation that stands where all tests are passed
 abbrev pub whole : (w : ℕ) (ls : List Line) (slots : List Step) → Listing
-whole w ls slots = cond (leb (stepsOf w ls) (length slots)) (listed noRefusal (stepsOf w ls) (over (listingOf w ls) slots)) (listed (atLine NoSpace 0) 0 slots)
+whole w ls slots = cond (leb (stepsOf w ls) (length slots)) (listed noRefusal (stepsOf w ls) (over (numberedOf w 2 ls) slots)) (listed (atLine NoSpace 0) 0 slots)
 
 -- where there is room, and where there is none
-pub whole-fits : (w : ℕ) (ls : List Line) (slots : List Step) → stepsOf w ls ≤ length slots → whole w ls slots ≡ listed noRefusal (stepsOf w ls) (over (listingOf w ls) slots)
+pub whole-fits : (w : ℕ) (ls : List Line) (slots : List Step) → stepsOf w ls ≤ length slots → whole w ls slots ≡ listed noRefusal (stepsOf w ls) (over (numberedOf w 2 ls) slots)
 whole-fits w ls slots h = rw (le-leb (stepsOf w ls) (length slots) h)
 
 whole-short : (w : ℕ) (ls : List Line) (slots : List Step) → length slots < stepsOf w ls → whole w ls slots ≡ listed (atLine NoSpace 0) 0 slots
@@ -66,18 +66,18 @@ pub blanks-fit : (r : Recipe) → r .width ≤ 4 → r .count ≤ linesMax → s
 blanks-fit r w c = rw length-replicate (omega (arith, few-steps r w c, slots-enough))
 
 pub laid : (r : Recipe)
-    → listed (judgeOf r .refused) (judgeOf r .count) (over (take (judgeOf r .count) (listingOf (r .width) (r .lines))) blanks) ≡ translateOf r blanks
+    → listed (judgeOf r .refused) (judgeOf r .count) (over (take (judgeOf r .count) (numberedOf (r .width) 2 (r .lines))) blanks) ≡ translateOf r blanks
 unfolding translateOf
 laid r =
-    tests-agree (λ (t : Translated) (l : Listing). listed (t .refused) (t .count) (over (take (t .count) (listingOf (r .width) (r .lines))) blanks) ≡ l)
+    tests-agree (λ (t : Translated) (l : Listing). listed (t .refused) (t .count) (over (take (t .count) (numberedOf (r .width) 2 (r .lines))) blanks) ≡ l)
     noSteps (λ k. listed k 0 blanks) (λ k e. refl) r (translation noRefusal (stepsOf (r .width) (recipeLines r)))
     (whole (r .width) (recipeLines r) blanks) (λ g. there (width-is (r .width) (g .width)) (g .few))
   where
     there : (0 < r .width) × (r .width ≤ 4) → r .count ≤ linesMax
-        → listed noRefusal (stepsOf (r .width) (recipeLines r)) (over (take (stepsOf (r .width) (recipeLines r)) (listingOf (r .width) (r .lines))) blanks)
+        → listed noRefusal (stepsOf (r .width) (recipeLines r)) (over (take (stepsOf (r .width) (recipeLines r)) (numberedOf (r .width) 2 (r .lines))) blanks)
         ≡ whole (r .width) (recipeLines r) blanks
     there w c =
-        rw (listing-prefix (r .width) (r .count) (r .lines)) (sym (whole-fits (r .width) (recipeLines r) blanks (blanks-fit r (w .1) c)))
+        rw (numbered-prefix (r .width) 2 (r .count) (r .lines)) (sym (whole-fits (r .width) (recipeLines r) blanks (blanks-fit r (w .1) c)))
 
 -- what the lent translator tells, and its slots, from a listing that was made in an array
 abbrev pub copied : Listing → List Step → Listing
@@ -92,13 +92,13 @@ translate-lent r slots =
     (λ k e. rw (le-ltb (length slots) 0 (omega arith))) r (whole (r .width) (recipeLines r) blanks) (whole (r .width) (recipeLines r) slots)
     (λ g. there (width-is (r .width) (g .width)) (g .few) (g .lines))
   where
-    room : Dec (stepsOf (r .width) (recipeLines r) ≤ length slots) → copied (listed noRefusal (stepsOf (r .width) (recipeLines r)) (over (listingOf (r .width) (recipeLines r)) blanks)) slots ≡ whole (r .width) (recipeLines r) slots
+    room : Dec (stepsOf (r .width) (recipeLines r) ≤ length slots) → copied (listed noRefusal (stepsOf (r .width) (recipeLines r)) (over (numberedOf (r .width) 2 (recipeLines r)) blanks)) slots ≡ whole (r .width) (recipeLines r) slots
     room (yes h) =
         rw (
           whole-fits (r .width) (recipeLines r) slots h,
           le-ltb (length slots) (stepsOf (r .width) (recipeLines r)) h,
-          take-at (listingOf (r .width) (recipeLines r)) (drop (length (listingOf (r .width) (recipeLines r))) blanks) (stepsOf (r .width) (recipeLines r)) (listing-steps (r .width) (recipeLines r)),
-          listing-steps (r .width) (recipeLines r),
+          take-at (numberedOf (r .width) 2 (recipeLines r)) (drop (length (numberedOf (r .width) 2 (recipeLines r))) blanks) (stepsOf (r .width) (recipeLines r)) (numbered-steps (r .width) 2 (recipeLines r)),
+          numbered-steps (r .width) 2 (recipeLines r),
         )
     room (no h) =
         rw (whole-short (r .width) (recipeLines r) slots (omega arith), lt-ltb (length slots) (stepsOf (r .width) (recipeLines r)) (omega arith))
@@ -124,7 +124,7 @@ blanks-hold r =
   where
     there : (0 < r .width) × (r .width ≤ 4) → r .count ≤ linesMax → whole (r .width) (recipeLines r) blanks .count ≤ length (whole (r .width) (recipeLines r) blanks .steps)
     there w c =
-        let all = listing-steps (r .width) (recipeLines r) in
+        let all = numbered-steps (r .width) 2 (recipeLines r) in
         rw (whole-fits (r .width) (recipeLines r) blanks (blanks-fit r (w .1) c), length-append) (omega arith)
 
 pub settled-room : (made : Listing) (room : ℕ) → settledOf made room .count ≤ room

@@ -1,6 +1,6 @@
 -- Laws of the listing's length: document 01's number of steps. Assumes nothing.
 --     line-length     a line has w steps, a copy 2w
---     listing-steps   so a listing has `stepsOf`
+--     listing-steps   so a listing has `stepsOf`; numbered-steps: with its lines too
 --     steps-most      at most 8 a line, so that `linesMax` lines have at most `stepsMax`
 --     listing-append  the listing of lines and more lines is the one and then the other
 use Prim.Native.Nat.{ℕ, zero, suc, _+_, _*_, _≤_, _<_}
@@ -11,10 +11,11 @@ use native.Mathlib.Omega.{arith}
 use lib.ListN.{length, take, getD, length-append, length-map}
 use lib.Seq.{take-append-add}
 use Rattle.step.specs.declared.forms.Step.{Step}
+use Rattle.step.specs.Lines.{withLine}
 use Rattle.recipes.specs.declared.types.Verb.{Verb}
 use Rattle.recipes.specs.declared.types.Line.{Line}
 use Rattle.recipes.specs.Recipe.{isCopy, target, unused}
-use Rattle.recipes.specs.Listing.{clrStep, firstStep, otherStep, withClr, highestFirst, risingRest, fallingRest, rising, falling, lineSteps, listingOf, stepsAt, stepsOf}
+use Rattle.recipes.specs.Listing.{clrStep, firstStep, otherStep, withClr, highestFirst, risingRest, fallingRest, rising, falling, lineSteps, listingOf, numberedOf, stepsAt, stepsOf}
 
 -- the steps at one register
 pub there-length : (v : Verb) (q : ℕ) (k : Step) → length (withClr v q k) ≡ stepsAt v
@@ -62,6 +63,14 @@ unfolding listingOf stepsOf
 listing-steps w [] = refl
 listing-steps w (l ∷ ls) = rw (length-append, line-length w l, listing-steps w ls)
 
+pub numbered-length : (w n : ℕ) (l : Line) → length (map (withLine n) (lineSteps w l)) ≡ stepsAt (l .verb) * w
+numbered-length w n l = length-map (lineSteps w l) (withLine n) ∙ line-length w l
+
+pub numbered-steps : (w n : ℕ) (ls : List Line) → length (numberedOf w n ls) ≡ stepsOf w ls
+unfolding numberedOf stepsOf
+numbered-steps w n [] = refl
+numbered-steps w n (l ∷ ls) = rw (length-append, numbered-length w n l, numbered-steps w (suc n) ls)
+
 pub steps-most : (w : ℕ) (ls : List Line) → w ≤ 4 → stepsOf w ls ≤ 8 * length ls
 unfolding stepsOf
 steps-most w [] h = omega arith
@@ -79,13 +88,13 @@ unfolding listingOf
 listing-append w [] ms = refl
 listing-append w (l ∷ ls) ms = ap (λ (ks : List Step). lineSteps w l ++ ks) (listing-append w ls ms) ∙ sym (append-assoc (lineSteps w l) (listingOf w ls) (listingOf w ms))
 
--- the listing of the first lines is the first part of the listing
-pub listing-prefix : (w n : ℕ) (ls : List Line) → take (stepsOf w (take n ls)) (listingOf w ls) ≡ listingOf w (take n ls)
-unfolding listingOf stepsOf
-listing-prefix w zero ls = refl
-listing-prefix w (suc n) [] = refl
-listing-prefix w (suc n) (l ∷ ls) =
-    rw (← line-length w l, take-append-add, listing-prefix w n ls)
+-- the listing of the first m lines is the first part of the listing
+pub numbered-prefix : (w n m : ℕ) (ls : List Line) → take (stepsOf w (take m ls)) (numberedOf w n ls) ≡ numberedOf w n (take m ls)
+unfolding numberedOf stepsOf
+numbered-prefix w n zero ls = refl
+numbered-prefix w n (suc m) [] = refl
+numbered-prefix w n (suc m) (l ∷ ls) =
+    rw (← numbered-length w n l, take-append-add, numbered-prefix w (suc n) m ls)
 
 -- one line more
 pub steps-more : (w k : ℕ) (ls : List Line) → k < length ls → stepsOf w (take (suc k) ls) ≡ stepsOf w (take k ls) + stepsAt (getD ls k unused .verb) * w

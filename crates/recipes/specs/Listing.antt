@@ -1,7 +1,7 @@
 -- The listing that a recipe is translated to: document 01, "Recipes" and "Refusal numbers". Assumes nothing.
 use Prim.Native.Nat.{ℕ, zero, suc, _+_, _*_, _/_}
 use mathlib.Core.Bool.{Bool, false, cond}
-use mathlib.Core.List.{List, [], _∷_, _++_}
+use mathlib.Core.List.{List, [], _∷_, _++_, map}
 use lib.Dec.{leb}
 use lib.ListN.{length, replicate}
 use Rattle.alu.specs.declared.types.Size.the-variants.{Long}
@@ -14,6 +14,7 @@ use Rattle.step.specs.declared.forms.Step.{Step}
 use Rattle.step.specs.Perform.{performOf}
 use Rattle.step.specs.Run.{arraySlots}
 use Rattle.step.specs.Lent.{over}
+use Rattle.step.specs.Lines.{withLine}
 use Rattle.recipes.specs.declared.types.Verb.{Verb}
 use Rattle.recipes.specs.declared.types.Line.{Line}
 use Rattle.recipes.specs.declared.types.Recipe.{Recipe}
@@ -25,10 +26,10 @@ use Rattle.recipes.specs.declared.lines.Act.{Act}
 use Rattle.recipes.specs.declared.lines.Act.the-variants.{One, Two, Shift}
 use Rattle.recipes.specs.Recipe.{linesMax, atLine, noRefusal, wayOf, isCopy, target, isWidth, recipeLines, passes, lineRefusal}
 
--- ---- the steps: all are long, from data register p to data register q; a shift is by #1
+-- ---- the steps: all are long, from data register p to data register q; a shift is by #1. They get their text lines below
 
 abbrev pub long : Form → Step
-long form = record { size = Long; form = form }
+long form = record { size = Long; form = form; line = 0 }
 
 abbrev pub formOf : Act → (p q : ℕ) → Form
 formOf (One op) p q = Form.One op (record { 0 = q })
@@ -87,6 +88,11 @@ unfoldable pub listingOf : (w : ℕ) → List Line → List Step
 listingOf w [] = []
 listingOf w (l ∷ ls) = lineSteps w l ++ listingOf w ls
 
+-- Document 02, item 4: each step carries the text line that it comes from. The first of these lines is text line n; a recipe's is 2
+unfoldable pub numberedOf : (w n : ℕ) → List Line → List Step
+numberedOf w n [] = []
+numberedOf w n (l ∷ ls) = map (withLine n) (lineSteps w l) ++ numberedOf w (suc n) ls
+
 -- document 01's number of steps: w for a line, 2w for a copy (`listing-steps` of proofs/Steps: it is the listing's length)
 abbrev pub stepsAt : Verb → ℕ
 stepsAt v = cond (isCopy v) 2 1
@@ -143,13 +149,13 @@ translateOf r slots =
     let w = r .width in
     let ls = recipeLines r in
     tested refuse r
-    (cond (leb (stepsOf w ls) (length slots)) (listed noRefusal (stepsOf w ls) (over (listingOf w ls) slots)) (refuse (atLine NoSpace 0)))
+    (cond (leb (stepsOf w ls) (length slots)) (listed noRefusal (stepsOf w ls) (over (numberedOf w 2 ls) slots)) (refuse (atLine NoSpace 0)))
 
 -- what the translator says, and the slots that it was lent
 abbrev pub translated : Translated → (slots : List Step) → Listing
 translated t slots = listed (t .refused) (t .count) slots
 
--- the blank slots of an array. A blank slot holds a step on D255, which the machine refuses
+-- the blank slots of an array. A blank slot holds a step on D255, of no line, which the machine refuses
 abbrev pub blank : Step
 blank = clrStep 255
 

@@ -1,4 +1,4 @@
--- What is printed, as lists of bytes: document 01, the end of "Refusal numbers", with document 02, item 1. Assumes nothing.
+-- What is printed, as lists of bytes: document 01, the end of "Refusal numbers", with document 02, items 1 and 4. Assumes nothing.
 use Prim.Native.Nat.{ℕ, suc}
 use mathlib.Core.Bool.{cond}
 use mathlib.Core.List.{List, [], _∷_, _++_}
@@ -81,13 +81,13 @@ destinationText (Chk p q) = dataText (q .0)
 
 -- ---- a listing
 
--- a step's line: place, operation, size letter, source, destination
+-- a step: place, operation, size letter, source, destination, text line (document 02, item 4)
 unfoldable pub stepText : (place : ℕ) → Step → List ℕ
 stepText place k =
     decimalOf place ++ (tab ++ (operationText (k .form) ++ (tab ++ (sizeText (k .size) ++
-    (tab ++ (sourceText (k .form) ++ (tab ++ (destinationText (k .form) ++ newline))))))))
+    (tab ++ (sourceText (k .form) ++ (tab ++ (destinationText (k .form) ++ (fieldOf (k .line) ++ newline)))))))))
 
--- the lines of steps that begin at this place
+-- the steps from this place on
 unfoldable pub stepsText : (place : ℕ) → List Step → List ℕ
 stepsText place [] = []
 stepsText place (k ∷ ks) = stepText place k ++ stepsText (suc place) ks
@@ -124,4 +124,4 @@ abbrev pub textMax : ℕ
 textMax = 1024
 
 abbrev pub printMax : ℕ
-printMax = 20480
+printMax = 24576

@@ -124,7 +124,7 @@ fn put_operand(out: &mut [u8], at: usize, operand: Operand) -> usize
     }
 }
 
-// A line of a listing: place, operation, size letter, source, destination.
+// A step of a listing: place, operation, size letter, source, destination, text line.
 fn put_step(out: &mut [u8], at: usize, place: u64, step: Step) -> usize
     ensures { λ r. ⌜ Wrote (now (out .entry)) at (stepText place step) (now (out .exit)) r ⌝ }
 {
@@ -135,6 +135,7 @@ fn put_step(out: &mut [u8], at: usize, place: u64, step: Step) -> usize
     let next = put_name(out, next, size_name(size));
     let next = put_operand(out, next, source(form));
     let next = put_operand(out, next, destination(form));
+    let next = put_number(out, next, TAB, step.line as u64);
     put_byte(out, next, NEWLINE)
 }
 

@@ -6,7 +6,7 @@ ghost use Prim.Native.Nat.{_/_, _%_, _*_, _<_, _≤_, _^_};
 ghost use lib.ListN.{getD, take};
 ghost use Rattle.recipes.specs.Recipe.{linesMax, unused};
 ghost use Rattle.step.specs.Lent.{over};
-ghost use Rattle.recipes.specs.Listing.{long, formOf, stepOf, blank, blanks, listingOf, translateOf, atRest, figureOf, clocksOf};
+ghost use Rattle.recipes.specs.Listing.{long, formOf, stepOf, blank, blanks, numberedOf, translateOf, atRest, figureOf, clocksOf};
 ghost use Rattle.recipes.specs.Making.{translation, actAt, offsetOf, stepsBy, jobOf, jobStep, StepOfJob, judgeOf, judgeLines, Layable};
 use super::lines::Act;
 use super::lines::Way;
@@ -31,6 +31,7 @@ use step::forms::Count;
 use step::forms::Form;
 use step::forms::OneOp;
 use step::forms::Step;
+use step::forms::with_line;
 use step::registers::D;
 use step::registers::State;
 use step::runs::SLOTS;
@@ -44,13 +45,14 @@ pub(crate) struct Job {
     pub steps: usize,
 }
 
-// Every step of a listing is made here.
+// Every step of a listing is made here, and gets its text line in `lay`.
 fn long(form: Form) -> Step
     ensures { λ r. ⌜ r ≡ long form ⌝ }
 {
     Step {
         size: Size::Long,
         form,
+        line: 0,
     }
 }
 
@@ -205,10 +207,10 @@ fn line_at(lines: [Line; LINES_MAX], k: usize) -> Line
     if k < LINES_MAX { lines[k] } else { unused() }
 }
 
-// The first `total` steps of the lines, and blank slots behind them.
+// The first `total` steps of the lines, and blank slots behind them. Line k, from 0, is text line k + 2.
 fn lay(width: u8, lines: [Line; LINES_MAX], total: usize) -> [Step; SLOTS]
     requires { ⌜ Layable width lines total ⌝ }
-    ensures { λ r. ⌜ r ≡ over (take total (listingOf width lines)) blanks ⌝ }
+    ensures { λ r. ⌜ r ≡ over (take total (numberedOf width 2 lines)) blanks ⌝ }
 {
     let none = blank();
     let mut steps = [none; SLOTS];
@@ -217,7 +219,9 @@ fn lay(width: u8, lines: [Line; LINES_MAX], total: usize) -> [Step; SLOTS]
     let mut j: usize = 0;
     let mut at: usize = 0;
     while at < total {
-        steps[at] = line_step(width, job, j);
+        let step = line_step(width, job, j);
+        let line = k as u8 + 2;
+        steps[at] = with_line(step, line);
         at += 1;
         j += 1;
         if j == job.steps {

@@ -15,7 +15,7 @@ pub const STEPS_MAX: u32 = 256;
 pub const TEXT_MAX: usize = 1024;
 
 // Room for what is printed of any recipe (`answer-short` of proofs/Room).
-pub const PRINT_MAX: usize = 20480;
+pub const PRINT_MAX: usize = 24576;
 
 pub enum Verb {
     Clear,

@@ -37,6 +37,12 @@ Blind f = (s : State) (k : Step) → f s (bare k) ≡ f s k
 pub blind : Blind performOf
 blind s k = refl
 
+pub goes-bare : (e : End) → goesOn (bareEnd e) ≡ goesOn e
+goes-bare End.Finished = refl
+goes-bare End.Budget = refl
+goes-bare (End.Trapped trap p n) = refl
+goes-bare (End.Refused fault p n) = refl
+
 module _ (f : State → Step → Performed) (unseen : Blind f) (l : List Step) where
   bare-followed : (o : Outcome) (w : Performed) (p line : ℕ) (on on′ : State → ℕ → Ran) → ((t : State) → bareRan (on t (suc p)) ≡ on′ t (suc p))
       → bareRan (followed o w p line on) ≡ followed o w p 0 on′
@@ -57,12 +63,6 @@ module _ (f : State → Step → Performed) (unseen : Blind f) (l : List Step) w
       (bare-met (spotOf l p) s p (λ k. followed (f s k .outcome) (f s k) p (k .line) (λ t q. runOf f l t q b))
       (λ k. followed (f s k .outcome) (f s k) p (k .line) (λ t q. runOf f (map bare l) t q b))
       (λ k. rw (unseen s k) (bare-followed (f s k .outcome) (f s k) p (k .line) _ _ (λ t. run-bare t (suc p) b))))
-
-  goes-bare : (e : End) → goesOn (bareEnd e) ≡ goesOn e
-  goes-bare End.Finished = refl
-  goes-bare End.Budget = refl
-  goes-bare (End.Trapped trap p n) = refl
-  goes-bare (End.Refused fault p n) = refl
 
   -- halted and continued, however often
   pub parts-bare : (bs : List ℕ) (s : State) (p b : ℕ) → bareRan (runInParts f l s p b bs) ≡ runInParts f (map bare l) s p b bs

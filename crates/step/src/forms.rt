@@ -1,6 +1,7 @@
 // What a step may be: document 01's forms, their operations, and the operations by number.
 ghost use mathlib.Core.Path.{_≡_};
 ghost use Rattle.step.specs.declared.forms.Operation.the-variants as Operation;
+ghost use Rattle.step.specs.Lines.{withLine};
 ghost use Rattle.step.specs.Operations.{operationOf, operationNumber, operationAt};
 use super::registers::A;
 use super::registers::D;
@@ -65,6 +66,15 @@ pub struct Step {
     pub size: Size,
     pub form: Form,
     pub line: u8,
+}
+
+// A step with another line.
+pub fn with_line(step: Step, line: u8) -> Step
+    ensures { λ r. ⌜ r ≡ withLine line step ⌝ }
+{
+    let size = step.size;
+    let form = step.form;
+    Step { size, form, line }
 }
 
 // What a form does, apart from its operands. ADDQ and SUBQ on an address register are operations of their own.

@@ -9,7 +9,8 @@ returns : tie.Need-returns
 unfolding stepText
 returns c =
     let e = c .before .before in
-    let d = e .before .before .before .before in
+    let l = e .before .before .before .before in
+    let d = l .before .before .before .before in
     let s = d .before .before .before .before .before in
     let z = s .before .before .before .before .before in
     let o = z .before .before .before .before .before in
@@ -18,7 +19,7 @@ returns c =
     (then _ _ _ _ (rw (o .before .operation-name .ensures) at (o .put-name .ensures))
     (then _ _ _ _ (rw (z .before .size-name .ensures) at (z .put-name2 .ensures))
     (then _ _ _ _ (rw (s .before .source .ensures) at (s .put-operand .ensures))
-    (then _ _ _ _ (rw (d .before .destination .ensures) at (d .put-operand2 .ensures)) (e .put-byte .ensures)))))
+    (then _ _ _ _ (rw (d .before .destination .ensures) at (d .put-operand2 .ensures)) (then _ _ _ _ (l .put-number .ensures) (e .put-byte .ensures))))))
 
 pub put-step-spec : {M : Type 1} → statement M
 put-step-spec =

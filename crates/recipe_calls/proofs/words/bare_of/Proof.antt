@@ -1,9 +1,9 @@
--- `words::step_of` meets its contract: the bytes of the word, what they name, and its size. Assumes nothing.
+-- `words::bare_of` meets its contract: the bytes of the word, what they name, and its size. Assumes nothing.
 use mathlib.Core.Path.{_∙_}
 use Rattle.recipe_calls.proofs.Naming.{low, form-named, none-named, unknown-named}
 use borrow.Author.Needs.{needs}
-use Rattle.recipe_calls.proofs.words.step_of.Statement.{statement}
-use Rattle.recipe_calls.proofs.words.step_of.Tie as tie
+use Rattle.recipe_calls.proofs.words.bare_of.Statement.{statement}
+use Rattle.recipe_calls.proofs.words.bare_of.Tie as tie
 
 returns : tie.Need-returns
 returns c =
@@ -34,8 +34,8 @@ returns-3 c =
     ∙ none-named w (low w (o .before .byte .ensures)) (o .operation-at .ensures) (n .operation .given .1) (m .before .before .before .byte2 .ensures)
     (m .before .before .byte3 .ensures) (m .before .byte4 .ensures) (m .form-of .ensures) (f .enum-told2 .given .1)
 
-pub step-of-spec : {M : Type 1} → statement M
-step-of-spec =
+pub bare-of-spec : {M : Type 1} → statement M
+bare-of-spec =
     tie.close
     (tie.spec
     (λ c. search needs) (λ c. search needs) (λ c. search needs) (λ c. search needs) (λ c. search needs) returns (λ c. search needs)
