@@ -174,12 +174,12 @@ Spot w lines at = (k : ℕ) × ((j : ℕ) × At w (length lines) lines k j at)
 pub place-at : (w : ℕ) (ls : List Line) (p : ℕ) → p < stepsOf w ls → Spot w ls p
 unfolding stepsOf
 place-at w [] p h = absurd (omega arith)
-place-at w (l ∷ ls) p h = go (decLt p (stepsAt (l .verb) * w))
+place-at w (l ∷ ls) p h = go (decLt p (stepsAt (l .verb) * w)) (λ behind. place-at w ls (p - stepsAt (l .verb) * w) (omega arith))
   where
-    go : Dec (p < stepsAt (l .verb) * w) → Spot w (l ∷ ls) p
-    go (yes inside) = (0, (p, record { line = omega arith; step = inside; place = omega arith }))
-    go (no behind) =
-        let r = place-at w ls (p - stepsAt (l .verb) * w) (omega arith) in
+    go : Dec (p < stepsAt (l .verb) * w) → ((p < stepsAt (l .verb) * w → ⊥) → Spot w ls (p - stepsAt (l .verb) * w)) → Spot w (l ∷ ls) p
+    go (yes inside) rest = (0, (p, record { line = omega arith; step = inside; place = omega arith }))
+    go (no behind) rest =
+        let r = rest behind in
         let e = r .1 .1 .place in
         let h = r .1 .1 .line in
         (suc (r .0), (r .1 .0, record { line = omega arith; step = r .1 .1 .step; place = omega arith }))

@@ -13,7 +13,7 @@ use Rattle.step.specs.Run.{runOf}
 use Rattle.text.specs.Text.{ascii, sameBytes, before, after, digitOf}
 use Rattle.recipes.specs.Recipe.{lineRefusal}
 use Rattle.recipes.specs.Reader.{verbOf, lineOf, linesOf, widthLine, readOf}
-use Rattle.recipes.specs.Listing.{risingRest, lineSteps, listingOf, stepsOf, linesPass, translateOf}
+use Rattle.recipes.specs.Listing.{risingRest, lineSteps, numberedOf, stepsOf, linesPass, translateOf}
 use Rattle.recipes.specs.Sums.{Sum, single, recipe, sums, ranFrom, holdsAt, holds}
 
 both : (a b : Bool) → T a → T b → T (a && b)
@@ -36,7 +36,7 @@ every-row (row ∷ rows) rest h g = both (Alu.holds row) _ (first (Alu.holds row
 
 -- 1 is in D0, D2 holds FFFFFFFF: the carry goes on to D3, and the whole is negated
 twelfth : T (every holds (recipe (ascii "width\t2\nadd\t0\t1\nneg\t1\n") (1 ∷ 0 ∷ 0xffff_ffff ∷ 0 ∷ []) 0 0xffff_ffff on ∷ []))
-unfolding every holds holdsAt atBoth always ranFrom readOf linesOf lineOf verbOf digitOf widthLine sameBytes before after lineRefusal translateOf linesPass stepsOf listingOf lineSteps risingRest runOf top sum difference addFlags subFlags negFlags
+unfolding every holds holdsAt atBoth always ranFrom readOf linesOf lineOf verbOf digitOf widthLine sameBytes before after lineRefusal translateOf linesPass stepsOf numberedOf lineSteps risingRest runOf top sum difference addFlags subFlags negFlags
 twelfth = tt
 
 pub all-sums : T (every holds sums)

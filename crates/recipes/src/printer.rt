@@ -130,12 +130,13 @@ fn put_step(out: &mut [u8], at: usize, place: u64, step: Step) -> usize
 {
     let size = step.size;
     let form = step.form;
+    let line = step.line as u64;
     let next = put_decimal(out, at, place);
     let next = put_name(out, next, operation_name(form));
     let next = put_name(out, next, size_name(size));
     let next = put_operand(out, next, source(form));
     let next = put_operand(out, next, destination(form));
-    let next = put_number(out, next, TAB, step.line as u64);
+    let next = put_number(out, next, TAB, line);
     put_byte(out, next, NEWLINE)
 }
 

@@ -26,4 +26,4 @@ put-step-spec =
     tie.close
     (tie.spec
     (search needs) (search needs) (search needs) (search needs) (search needs) (search needs) (search needs) (search needs) (search needs)
-    (search needs) (search needs) returns)
+    (search needs) (search needs) (search needs) (search needs) returns)
