@@ -1,8 +1,9 @@
 // Carries that went out of a number on the way: the X that an add, sub or up line left behind its last step. Of the recipe's
 // last line the table's end row has it; of any other the next line makes another X, and it is told here.
 ghost use Prim.Native.Nat.{_≤_};
+use crate::course::line_of;
 use crate::course::one_more;
-use crate::lines::line_at;
+use crate::course::step_at;
 use crate::numbers::count_of;
 use crate::pen::Pen;
 use crate::pen::at_start;
@@ -40,12 +41,14 @@ pub(crate) fn carried(recipe: Recipe, made: Listing, start: Ran, steps: u32) -> 
     let mut left = steps;
     while 0 < left {
         let after = one_more(made, ran);
-        let k = line_at(recipe, ran.next);
+        let step = step_at(made, ran.next);
+        let behind = step_at(made, after.next);
+        let k = line_of(step);
         let line = lines[k];
         let verb = line.verb;
         let state = after.state;
         let flags = state.flags;
-        let ended = line_at(recipe, after.next) != k;
+        let ended = behind.line != step.line;
         if ended & (k + 1 < recipe.count) {
             marked[k] = flags.x & carries(verb);
         }

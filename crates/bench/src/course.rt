@@ -1,5 +1,8 @@
-// The run that is shown: before its first step, as a whole, and step by step.
+// The run that is shown: before its first step, as a whole, and step by step; and the line that a step comes from.
+ghost use Prim.Native.Nat.{_<_};
+ghost use Rattle.recipes.specs.Recipe.{linesMax};
 use crate::words::Asked;
+use recipes::types::LINES_MAX;
 use recipes::types::Listing;
 use step::forms::Step;
 use step::runs::Ran;
@@ -32,5 +35,17 @@ pub(crate) fn step_at(made: Listing, place: usize) -> Step {
         listing[place]
     } else {
         listing[0]
+    }
+}
+
+// The recipe line, from 0, of a step: line k is text line k + 2. The first where a step has no line.
+pub(crate) fn line_of(step: Step) -> usize
+    ensures { λ r. ⌜ r < linesMax ⌝ }
+{
+    let line = step.line as usize;
+    if (2 <= line) & (line < LINES_MAX + 2) {
+        line - 2
+    } else {
+        0
     }
 }

@@ -3,6 +3,7 @@ use crate::pen::BLANK;
 use crate::pen::Pen;
 use crate::pen::at_start;
 use crate::pen::line_start;
+use crate::pen::place_of;
 use crate::pen::put;
 use crate::pen::put_byte;
 use crate::pen::put_count;
@@ -61,8 +62,8 @@ fn kind(end: End) -> usize {
     match end {
         End::Finished => 0,
         End::Budget => 1,
-        End::Trapped(_, _) => 2,
-        End::Refused(_, _) => 3,
+        End::Trapped(_, _, _) => 2,
+        End::Refused(_, _, _) => 3,
     }
 }
 
@@ -71,8 +72,8 @@ fn number_of(end: End) -> u32 {
     match end {
         End::Finished => 0,
         End::Budget => 0,
-        End::Trapped(trap, _) => class(trap),
-        End::Refused(fault, _) => number(fault),
+        End::Trapped(trap, _, _) => class(trap),
+        End::Refused(fault, _, _) => number(fault),
     }
 }
 
@@ -92,8 +93,8 @@ fn end_place(ran: Ran) -> usize {
     match end {
         End::Finished => ran.next,
         End::Budget => ran.next,
-        End::Trapped(_, place) => place,
-        End::Refused(_, place) => place,
+        End::Trapped(_, place, _) => place,
+        End::Refused(_, place, _) => place,
     }
 }
 
@@ -102,12 +103,33 @@ fn put_place(pen: Pen, place: usize) -> Pen {
     put_decimal(next, place as u64)
 }
 
+// The text line of the step that was trapped or refused; 0 where there is none.
+fn told_line(end: End) -> u8 {
+    match end {
+        End::Finished => 0,
+        End::Budget => 0,
+        End::Trapped(_, _, line) => line,
+        End::Refused(_, _, line) => line,
+    }
+}
+
+// That line with what stands there.
+fn put_told(pen: Pen, text: &[u8], line: u8) -> Pen {
+    if line == 0 {
+        return pen;
+    }
+    let next = put(pen, b", line ");
+    let next = put_decimal(next, line as u64);
+    let next = put_byte(next, BLANK);
+    put_fields(next, text, line_start(text, place_of(line as usize)))
+}
+
 fn put_counts(pen: Pen, steps: u32, clocks: u64) -> Pen {
     let next = put_count(pen, b": ", steps as u64, b" step");
     put_count(next, b", ", clocks, b" clock")
 }
 
-fn end_line(ran: Ran) -> Pen {
+fn end_line(text: &[u8], ran: Ran) -> Pen {
     let end = ran.end;
     let next = put_end(
         at_start(),
@@ -115,6 +137,7 @@ fn end_line(ran: Ran) -> Pen {
         end,
     );
     let next = put_place(next, end_place(ran));
+    let next = put_told(next, text, told_line(end));
     put_counts(next, ran.steps, ran.clocks)
 }
 
@@ -146,9 +169,9 @@ pub(crate) fn is_budget(end: End) -> bool {
 }
 
 // How a run ended, and where it can go on, how.
-pub(crate) fn put_ending(out: &mut [u8], at: usize, ran: Ran) -> usize {
+pub(crate) fn put_ending(out: &mut [u8], at: usize, text: &[u8], ran: Ran) -> usize {
     let end = ran.end;
-    let next = put_line(out, at, end_line(ran));
+    let next = put_line(out, at, end_line(text, ran));
     if is_budget(end) {
         return put_line(out, next, halted_line(ran));
     }

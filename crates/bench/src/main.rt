@@ -7,7 +7,6 @@ mod boxes;
 mod carry;
 mod course;
 mod ending;
-mod lines;
 mod numbers;
 mod pen;
 mod rows;

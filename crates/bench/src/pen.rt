@@ -134,6 +134,11 @@ pub(crate) fn within(n: usize, out: &[u8]) -> usize
     if n < out.len() { n } else { out.len() }
 }
 
+// The place, from 0, of a line or a column that is counted from 1; the first where there is none.
+pub(crate) fn place_of(counted: usize) -> usize {
+    if counted == 0 { 0 } else { counted - 1 }
+}
+
 // Where line k of a text begins, from 0; the text's end where it has no such line.
 pub(crate) fn line_start(text: &[u8], k: usize) -> usize
     ensures { λ r. ⌜ r ≤ length (now (text .entry)) ⌝ }

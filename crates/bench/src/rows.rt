@@ -64,7 +64,7 @@ fn refusal(fault: Fault, place: usize) -> Pen {
 pub(crate) fn put_run(out: &mut [u8], asked: Asked, made: Listing) -> usize {
     let ran = whole_run(made, asked);
     let end = ran.end;
-    if let End::Refused(fault, place) = end {
+    if let End::Refused(fault, place, _) = end {
         return put_line(out, 0, refusal(fault, place));
     }
     put_rows(out, asked, made, ran.steps)

@@ -4,6 +4,7 @@ use crate::pen::Pen;
 use crate::pen::TAB;
 use crate::pen::at_start;
 use crate::pen::line_start;
+use crate::pen::place_of;
 use crate::pen::put;
 use crate::pen::put_byte;
 use crate::pen::put_decimal;
@@ -62,11 +63,6 @@ fn head(line: usize) -> Pen {
 
 fn mark_below(at: usize) -> Pen {
     put_byte(tab(at_start(), at), b'^')
-}
-
-// The place, from 0, of a line or a column that is counted from 1; the first where a refusal has none.
-fn place_of(counted: usize) -> usize {
-    if counted == 0 { 0 } else { counted - 1 }
 }
 
 // The first place that is shown, for a mark at `here`.

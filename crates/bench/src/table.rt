@@ -1,16 +1,14 @@
 // A run as a table: all numbers at the start; of each step its place, the step, the text line that it comes from, the register
 // that it changed, the flags, the clocks so far, and the number that it works on; all numbers at the end, and how it ended.
-ghost use Prim.Native.Nat.{_<_};
-ghost use Rattle.recipes.specs.Recipe.{linesMax};
 use crate::carry::carried;
 use crate::carry::put_carries;
+use crate::course::line_of;
 use crate::course::not_begun;
 use crate::course::one_more;
 use crate::course::step_at;
 use crate::course::whole_run;
 use crate::ending::put_ending;
 use crate::ending::put_settings;
-use crate::lines::line_at;
 use crate::numbers::count_of;
 use crate::numbers::put_longs;
 use crate::numbers::put_names;
@@ -20,6 +18,7 @@ use crate::pen::Pen;
 use crate::pen::at_start;
 use crate::pen::line_start;
 use crate::pen::next_field;
+use crate::pen::place_of;
 use crate::pen::put;
 use crate::pen::put_byte;
 use crate::pen::put_count;
@@ -173,13 +172,11 @@ fn put_step(pen: Pen, place: usize, step: Step) -> Pen {
     next
 }
 
-// Recipe line k, from 0, is line k + 1 of the text, from 0, and is called k + 2.
-fn put_text(pen: Pen, text: &[u8], k: usize) -> Pen
-    requires { ⌜ k < linesMax ⌝ }
-{
-    let next = put_right(pen, LINE + 2, k as u64 + 2);
+// A text line: its number, from 1, and what stands there.
+fn put_text(pen: Pen, text: &[u8], line: u8) -> Pen {
+    let next = put_right(pen, LINE + 2, line as u64);
     let next = put_byte(next, BLANK);
-    put_fields(next, text, line_start(text, k + 1))
+    put_fields(next, text, line_start(text, place_of(line as usize)))
 }
 
 // The first register that differs, with its new value.
@@ -207,10 +204,10 @@ fn row(text: &[u8], recipe: Recipe, made: Listing, before: Ran, after: Ran) -> P
     let state = after.state;
     let d = state.d;
     let flags = state.flags;
-    let k = line_at(recipe, before.next);
-    let line = lines[k];
-    let next = put_step(at_start(), before.next, step_at(made, before.next));
-    let next = put_text(next, text, k);
+    let step = step_at(made, before.next);
+    let line = lines[line_of(step)];
+    let next = put_step(at_start(), before.next, step);
+    let next = put_text(next, text, step.line);
     let next = put_changed(next, old_d, d);
     let next = put_flags_and_clocks(next, flags, after.clocks);
     put_number(next, recipe.width, d, target(line))
@@ -253,6 +250,7 @@ fn put_top(out: &mut [u8], asked: Asked, recipe: Recipe, steps: usize) -> usize 
 fn put_bottom(
     out: &mut [u8],
     at: usize,
+    text: &[u8],
     recipe: Recipe,
     marked: [bool; LINES_MAX],
     ran: Ran,
@@ -260,7 +258,7 @@ fn put_bottom(
     let next = put_standing(out, at, b"end", recipe.width, ran);
     let next = put_line(out, next, at_start());
     let next = put_carries(out, next, recipe, marked);
-    put_ending(out, next, ran)
+    put_ending(out, next, text, ran)
 }
 
 // The whole table.
@@ -278,5 +276,5 @@ pub(crate) fn put_run(
     let next = put_standing(out, next, b"start", width, start);
     let next = put_rows(out, next, text, recipe, made, start, ran.steps);
     let marked = carried(recipe, made, start, ran.steps);
-    put_bottom(out, next, recipe, marked, ran)
+    put_bottom(out, next, text, recipe, marked, ran)
 }

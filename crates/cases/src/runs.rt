@@ -1,5 +1,5 @@
 // A row of runs.tsv, by its columns: 0 name; 1 start place, 2 budget, 3 length of the listing; 4 D0, 5 D1, 6 A1, 7 flags before;
-// 8 to 13 what is told; 14 D0, 15 D1, 16 A1, 17 flags after; then the listing's words. Those of its length that the row does not
+// 8 to 14 what is told; 15 D0, 16 D1, 17 A1, 18 flags after; then the listing's words. Those of its length that the row does not
 // give are ADD.L D0,D1. All other registers have fixed values and keep them. bindings/c/gromavelush.h shows the words, and what
 // is told.
 ghost use Prim.Native.Nat.{_+_, _≤_};
@@ -12,7 +12,7 @@ use crate::fields::same_told;
 use recipe_calls::TOLD;
 
 // Where the words begin, and as many as a listing may have.
-const HEAD: usize = 18;
+const HEAD: usize = 19;
 
 const WORDS: u64 = 300;
 
@@ -61,7 +61,7 @@ fn ran(listing: &[u64], before: Run, start: u64, budget: u32) -> Run {
 
 // Whether a run led to the state after, and is told so.
 fn as_told(run: Run, v: [u64; COLUMNS]) -> bool {
-    let want = state(v, 14);
+    let want = state(v, 15);
     let d = run.d;
     let a = run.a;
     let told = run.told;
@@ -70,7 +70,7 @@ fn as_told(run: Run, v: [u64; COLUMNS]) -> bool {
     same_registers(d, want_d)
         & same_registers(a, want_a)
         & (run.flags == want.flags)
-        & same_told(v, 8, 6, told)
+        & same_told(v, 8, 7, told)
 }
 
 // The run that continues another: steps and figures add.
@@ -115,7 +115,7 @@ fn runs(listing: &[u64], v: [u64; COLUMNS]) -> bool {
 }
 
 fn end_of(length: u64) -> usize
-    ensures { λ r. ⌜ (18 ≤ r) × (r ≤ 320) ⌝ }
+    ensures { λ r. ⌜ (19 ≤ r) × (r ≤ 320) ⌝ }
 {
     if length <= WORDS {
         HEAD + length as usize
@@ -130,5 +130,5 @@ pub(crate) fn judge(row: &[u8], name: usize) -> bool {
     let v = words;
     let length = v[3];
     let end = end_of(length);
-    (17 <= last) & (last < end) & (length <= WORDS) & runs(&words[HEAD..end], v)
+    (18 <= last) & (last < end) & (length <= WORDS) & runs(&words[HEAD..end], v)
 }

@@ -259,10 +259,11 @@ pub(crate) fn step_word(step: Step) -> u64
 {
     let size = step.size;
     let form = step.form;
+    let line = step.line as u64;
     number(operation_of(form)) as u64
         + size_number(size) as u64 * 0x100
         + source_kind(form) as u64 * 0x1_0000
         + source_number(form) as u64 * 0x100_0000
         + destination_number(form) as u64 * 0x1_0000_0000
-        + step.line as u64 * 0x100_0000_0000
+        + line * 0x100_0000_0000
 }

@@ -8,4 +8,4 @@ returns : tie.Need-returns
 returns c = rw (c .before .end-line .ensures, c .before .before .end-numbers .ensures, end-told)
 
 pub ran-told-spec : {M : Type 1} → statement M
-ran-told-spec = tie.close (tie.spec (λ c κs. search needs) (λ c. search needs) (λ c. search needs) (λ c. search needs) (λ c. search needs) returns)
+ran-told-spec = tie.close (tie.spec (λ c κs. search needs) (λ c. search needs) (λ c. search needs) (λ c. search needs) (λ c. search needs) (λ c. search needs) (λ c. search needs) returns)
