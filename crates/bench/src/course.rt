@@ -8,6 +8,7 @@ use step::forms::Step;
 use step::runs::Ran;
 use step::runs::SLOTS;
 use step::runs::begun;
+use step::runs::lesser;
 use step::runs::resumed;
 use step::runs::run_array;
 
@@ -38,14 +39,13 @@ pub(crate) fn step_at(made: Listing, place: usize) -> Step {
     }
 }
 
-// The recipe line, from 0, of a step: line k is text line k + 2. The first where a step has no line.
+// The recipe line, from 0, of a step: line k is text line k + 2. Of a step with no line the first.
 pub(crate) fn line_of(step: Step) -> usize
     ensures { λ r. ⌜ r < linesMax ⌝ }
 {
     let line = step.line as usize;
-    if (2 <= line) & (line < LINES_MAX + 2) {
-        line - 2
-    } else {
-        0
+    if line < 2 {
+        return 0;
     }
+    lesser(line - 2, LINES_MAX - 1)
 }

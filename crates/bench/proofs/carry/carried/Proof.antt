@@ -14,4 +14,4 @@ carried-spec =
     tie.close
     (tie.spec
     Inv-loop μ-loop (λ c. search needs) (search needs) (search needs) (search needs) (search needs) (search needs) (search needs) (search needs)
-    (search needs) (search needs) (search needs) (λ c. search needs) (λ c. search needs))
+    (search needs) (search needs) (search needs) (search needs) (λ c. search needs) (λ c. search needs))
