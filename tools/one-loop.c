@@ -7,6 +7,11 @@
 
 #include "gromavelush.h"
 
+static uint32_t next(uint32_t x)
+{
+    return x * 1664525 + 1013904223;
+}
+
 static uint64_t step_of(uint32_t x)
 {
     uint32_t kind = x % 16, r = x / 16 % 7, s = x / 128 % 8, k = x / 1024 % 64, size = x / 65536 % 3;
@@ -39,8 +44,8 @@ int main(int words, char **word)
         return 2;
     budget = (uint32_t)strtoul(word[1], NULL, 10);
     for (i = 0; i < GRO_SLOTS; i++) {
-        x = x * 1664525 + 1013904223;
-        listing[i] = step_of(x / 256);
+        x = next(x);
+        listing[i] = step_of(x / 256) | (uint64_t)(next(next(x)) >> 24) << 40; /* byte 5 is its line */
     }
     for (i = 0; i < 100; i++)
         listing_run(listing, GRO_SLOTS, d, a, &flags, 0, budget, told);

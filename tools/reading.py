@@ -1,5 +1,5 @@
-"""Document 01's recipes, with items 1 and 3 of document 02, read in Python, for tools/recipe-vectors, tools/bench-cases and tools/hostile. It uses nothing
-of the product.
+"""Document 01's recipes, with items 1, 3 and 4 of document 02, read in Python, for tools/recipe-vectors, tools/bench-cases and tools/hostile. It
+uses nothing of the product.
 
 A step is done by arithmetic on words, what a line means is told of whole numbers: neither uses the other's rules, so that one can be held against
 the other. At the end stands what these tools share beside that: random and damaged recipes, words for the program bench, and how a tool reads its
@@ -187,24 +187,24 @@ def text_of(w, lines):
 
 # ---- listings and runs
 
-Step = collections.namedtuple("Step", "operation source to line")  # `to` is the register that it changes, `line` the index of its line
+Step = collections.namedtuple("Step", "operation source to line")  # `to` is the register that it changes, `line` its text line
 Asked = collections.namedtuple("Asked", "data address flags start budget")  # what a run is handed
 Standing = collections.namedtuple("Standing", "place data flags clocks")  # where it is after some steps
 
 
-def steps_of(w, line, k=0):
-    """The steps of line k."""
+def steps_of(w, line, at=0):
+    """The steps of a line, which is the text's line `at`."""
     verb, a, b = line
     row, order = VERBS[verb], range(w)
     return [
-        Step(operation, OPERATIONS[operation].source.replace("D", f"D{a * w + i}"), b * w + i, k)
-        for at, i in enumerate(reversed(order) if row.downward else order)
-        for operation in (row.other if at else row.first).split()
+        Step(operation, OPERATIONS[operation].source.replace("D", f"D{a * w + i}"), b * w + i, at)
+        for k, i in enumerate(reversed(order) if row.downward else order)
+        for operation in (row.other if k else row.first).split()
     ]
 
 
 def listing(w, lines):
-    return [step for k, line in enumerate(lines) for step in steps_of(w, line, k)]
+    return [step for at, line in enumerate(lines, 2) for step in steps_of(w, line, at)]
 
 
 def bounds(w, lines):
@@ -233,7 +233,7 @@ def run(steps, asked):
 def printed(w, lines):
     """What the program recipe prints."""
     steps = listing(w, lines)
-    rows = [f"{place}\t{step.operation}\tL\t{step.source}\tD{step.to}\n" for place, step in enumerate(steps)]
+    rows = [f"{place}\t{step.operation}\tL\t{step.source}\tD{step.to}\t{step.line}\n" for place, step in enumerate(steps)]
     return "".join([f"width\t{w}\t{len(steps)}\n", *rows, f"clocks\t{clocks_of(steps)}\n"])
 
 

@@ -4,12 +4,7 @@
 //!
 //! A row that is only written is full of ones before, so that a place that the port leaves out shows.
 
-use crate::steps::{Flags, Slice, State};
-
-/// How many numbers a function tells.
-pub const TOLD: usize = 8;
-
-pub type Told = [u64; TOLD];
+use crate::steps::{Flags, Slice, State, TOLD, Told};
 
 unsafe extern "C" {
     fn recipe_archive_recipe_answer(text: &Slice<u8>, out: &Slice<u8>) -> usize;
@@ -49,7 +44,7 @@ pub fn recipe_translate(text: &[u8], listing: &mut [u64]) -> Told {
     told
 }
 
-/// What `Ran::told` tells of other runs; then zeros.
+/// What `Ran::told` tells of other runs.
 pub fn listing_run(listing: &[u64], state: &mut State, start: usize, budget: u32) -> Told {
     let mut flags = state.flags.ccr();
     let told = box_run(listing, &mut state.d, &mut state.a, &mut flags, start, budget);

@@ -18,6 +18,8 @@ pub mod c_functions;
 pub mod cases;
 pub mod check;
 pub mod document;
+#[cfg(feature = "step")]
+pub mod line_checks;
 pub mod machine;
 pub mod oracle;
 pub mod packed;

@@ -178,7 +178,7 @@ pub fn by_steps(listing: &[Step], state: &mut State, start: usize, budget: u32) 
     let slice = Slice::lent(listing);
     let mut ran = Ran { end: End::Budget, next: start, steps: 0, clocks: 0 };
     if start > listing.len() {
-        ran.end = End::Refused(Fault::StartPastEnd, start);
+        ran.end = End::Refused(Fault::StartPastEnd, start, 0);
         return ran;
     }
     loop {
@@ -192,20 +192,20 @@ pub fn by_steps(listing: &[Step], state: &mut State, start: usize, budget: u32) 
         }
         let (mut step, mut told) = (MaybeUninit::uninit(), MaybeUninit::uninit());
         // SAFETY: as above.
-        let told: Told = unsafe {
+        let (Step { line, .. }, told): (Step, Told) = unsafe {
             step_lent_fetch(step.as_mut_ptr(), &slice, at, &listing[0]);
             step_lent_perform_in(told.as_mut_ptr(), state, step.as_ptr());
-            told.assume_init()
+            (step.assume_init(), told.assume_init())
         };
         if let Outcome::Refused(fault) = told.outcome {
-            ran.end = End::Refused(fault, at);
+            ran.end = End::Refused(fault, at, line);
             return ran;
         }
         ran.next += 1;
         ran.steps += 1;
         ran.clocks += u64::from(told.clocks);
         if let Outcome::Trapped(class) = told.outcome {
-            ran.end = End::Trapped(class, at);
+            ran.end = End::Trapped(class, at, line);
             return ran;
         }
     }

@@ -1,7 +1,7 @@
 //! The port's `rack` and `rack_run` held to `racks`: the racks of examples/racks.tsv, and racks at random. What of it was met is
 //! counted.
 
-use crate::c_functions::{Told, rack_run};
+use crate::c_functions::rack_run;
 use crate::cases::Random;
 use crate::check::Tally;
 use crate::ported;
@@ -9,7 +9,7 @@ use crate::rack_examples::{Example, Set, examples};
 use crate::racks::{Rack, Row, Words};
 use crate::random_racks::{junk_set, junk_slot, random_rack, random_words};
 use crate::recipes::{BOXES_MAX, SLOTS};
-use crate::steps::{End, Fault, Flags, Ran, State, Step};
+use crate::steps::{End, Fault, Flags, Ran, State, Step, Told};
 
 fn by_rack(rack: &Rack) -> ((u64, usize), Rack) {
     let mut left = rack.clone();
@@ -49,7 +49,7 @@ fn compare_words(words: &Words, rack: &Rack, tally: &mut Tally) {
 }
 
 /// Of each box the set that is left, and what is told.
-type Boxes = Vec<(State, [u64; 6])>;
+type Boxes = Vec<(State, Told)>;
 
 fn boxes_by_rack(rack: &Rack) -> Boxes {
     let (_, left) = by_rack(rack);
@@ -82,7 +82,7 @@ fn compare_parts(
     let boxes = halted.iter().zip(run(&part)).zip(whole.singles(&rack.listing));
     let mut gone_on = 0;
     for (i, (((_, before), (set, mut told)), (state, ran))) in boxes.enumerate() {
-        let [end, _, _, _, steps, clocks] = *before;
+        let [end, _, _, _, steps, clocks, ..] = *before;
         if end < 2 {
             gone_on += usize::from(end == 1 && told[4] > 0);
             (told[4], told[5]) = (told[4].wrapping_add(steps), told[5].wrapping_add(clocks));
@@ -102,14 +102,23 @@ fn set_of(state: &State) -> Set {
     Set { d: state.d, a: state.a, flags: state.flags.ccr() }
 }
 
+/// An example's step, with a line at random.
+fn step_of([operation, size, kind, from, to]: [u8; 5], random: &mut Random) -> Step {
+    let word = u64::from_le_bytes([operation, size, kind, from, to, random.bits() as u8, 0, 0]);
+    let step = Step::named(word).filter(|step| step.word() == word);
+    step.unwrap_or_else(|| panic!("examples/racks.tsv: no step: {word:x}"))
+}
+
+/// What an example tells of a box, and the line of the step at the place of its trap or refusal.
+fn with_line([end, which, place, next, steps, clocks]: [u64; 6], listing: &[Step]) -> Told {
+    let step = listing.get(place as usize).filter(|_| end >= 2);
+    [end, which, place, next, steps, clocks, step.map_or(0, |step| step.line.into()), 0]
+}
+
 fn rack_of(example: &Example, random: &mut Random) -> Rack {
     let boxes = example.boxes.len();
-    let step = |numbers: &[u8; 5]| {
-        let step = Step::named(*numbers).filter(|step| step.word().to_le_bytes().starts_with(numbers));
-        step.unwrap_or_else(|| panic!("examples/racks.tsv: no step: {numbers:?}"))
-    };
     let mut rack = Rack {
-        listing: example.steps.iter().map(step).collect(),
+        listing: example.steps.iter().map(|&numbers| step_of(numbers, random)).collect(),
         sets: Row::new(boxes, boxes, || junk_set(random)),
         starts: Row::new(example.starts, boxes, || random.bits() as usize),
         budget: example.budget,
@@ -128,7 +137,7 @@ fn compare_example(example: &Example, random: &mut Random, tally: &mut Tally) {
     compare_words(&Words::of(&rack, || random.bits()), &rack, tally);
     let boxes = left.sets.all.iter().zip(&left.slots.all);
     let same = example.boxes.iter().zip(boxes).all(|(each, (set, slot))| match each.left {
-        Some((told, left)) => slot.told() == told && set_of(set) == left,
+        Some((told, left)) => slot.told() == with_line(told, &rack.listing) && set_of(set) == left,
         None => set_of(set) == each.set,
     });
     tally.count(same && told == (example.number, example.run), || {
@@ -188,14 +197,16 @@ type Kind = (&'static str, fn(&Seen) -> usize);
 
 const KINDS: [(&str, &[Kind]); 3] = [("boxes", &BOXES), ("rack", &RACKS), ("rack_run", &IN_WORDS)];
 
-const BOXES: [Kind; 7] = [
+const BOXES: [Kind; 9] = [
     ("finished", |seen| seen.ended(|end| end == End::Finished)),
     ("budget", |seen| seen.ended(|end| end == End::Budget)),
     ("trapped", |seen| seen.ended(|end| matches!(end, End::Trapped(..)))),
+    ("trapped with a line", |seen| seen.ended(|end| matches!(end, End::Trapped(_, _, 1..)))),
     ("refused", |seen| {
-        seen.ended(|end| matches!(end, End::Refused(fault, _) if fault != Fault::StartPastEnd))
+        seen.ended(|end| matches!(end, End::Refused(fault, ..) if fault != Fault::StartPastEnd))
     }),
-    ("past the end", |seen| seen.ended(|end| matches!(end, End::Refused(Fault::StartPastEnd, _)))),
+    ("refused with a line", |seen| seen.ended(|end| matches!(end, End::Refused(_, _, 1..)))),
+    ("past the end", |seen| seen.ended(|end| matches!(end, End::Refused(Fault::StartPastEnd, ..)))),
     ("behind such a box", |seen| seen.behind()),
     ("continued", |seen| seen.gone_on),
 ];

@@ -65,9 +65,8 @@ impl Records {
 impl Words {
     fn digest(&self) -> u64 {
         (0..BOXES_MAX).fold(0, |sum, i| {
-            let [told @ .., _, _] = self.answers[i];
             let set = State { d: self.d[i], a: self.a[i], flags: Flags::of(self.flags[i]) };
-            registers(answered(sum, told), &set)
+            registers(answered(sum, self.answers[i]), &set)
         })
     }
 }

@@ -1,9 +1,8 @@
 //! Racks of boxes, and what document 02, item 2, says of them: each box is the single run on its set, here that of `tuned`,
 //! unless the rack is refused. As records, for the port's `rack`; and as the flat rows of its C function `rack_run`.
 
-use crate::c_functions::{TOLD, Told};
 use crate::recipes::{BOXES_MAX, SLOTS};
-use crate::steps::{Ran, State, Step};
+use crate::steps::{Ran, State, Step, TOLD, Told};
 use crate::tuned;
 use std::fmt::Debug;
 use std::iter::repeat_with;
@@ -100,13 +99,14 @@ pub struct Words {
 }
 
 impl Words {
-    /// Of a rack. What has no meaning, in the flags' bytes too, is junk.
+    /// Of a rack. What has no meaning, in the steps' words and the flags' bytes too, is junk.
     pub fn of(rack: &Rack, mut junk: impl FnMut() -> u64) -> Words {
         let Row { all: sets, length } = &rack.sets;
+        let listing = rack.listing.iter().map(|step| step.word() | junk() << 48).collect();
         let flags = sets.iter().map(|set| set.flags.ccr() | (junk() as u8 & 0xE0)).collect();
         let answers = repeat_with(junk).take(TOLD * rack.slots.all.len()).collect();
         Words {
-            listing: rack.listing.iter().map(Step::word).collect(),
+            listing,
             d: Row { all: sets.iter().flat_map(|set| set.d).collect(), length: 8 * length },
             a: Row { all: sets.iter().flat_map(|set| set.a).collect(), length: 8 * length },
             flags: Row { all: flags, length: *length },
@@ -135,7 +135,7 @@ impl Words {
             left.d.all[place.clone()].copy_from_slice(&state.d);
             left.a.all[place.clone()].copy_from_slice(&state.a);
             left.flags.all[i] = state.flags.ccr();
-            left.answers.all[place].copy_from_slice(&[&ran.told()[..], &[0, 0]].concat());
+            left.answers.all[place].copy_from_slice(&ran.told());
         }
         ([0, self.flags.length as u64, 0, 0, 0, 0, 0, 0], left)
     }

@@ -13,7 +13,7 @@ pub fn junk_set(random: &mut Random) -> State {
 pub fn junk_slot(random: &mut Random) -> Ran {
     let [place, next] = [(); 2].map(|()| random.bits() as usize);
     let (steps, clocks) = (random.bits() as u32, random.bits());
-    Ran { end: End::Trapped(Class::Below, place), next, steps, clocks }
+    Ran { end: End::Trapped(Class::Below, place, random.bits() as u8), next, steps, clocks }
 }
 
 /// A row for so many: just enough, spare ones, or too few.
@@ -47,7 +47,7 @@ fn random_sets(random: &mut Random) -> usize {
     }
 }
 
-fn random_listing(random: &mut Random) -> Vec<Step> {
+pub fn random_listing(random: &mut Random) -> Vec<Step> {
     let length = match random.below(16) {
         0 => 0,
         1..6 => 1 + random.below(8),
@@ -58,7 +58,7 @@ fn random_listing(random: &mut Random) -> Vec<Step> {
     steps_of(random.pick(&[MIXED, WILD]), random.bits() as u32).take(length).collect()
 }
 
-fn random_start(steps: usize, random: &mut Random) -> usize {
+pub fn random_start(steps: usize, random: &mut Random) -> usize {
     match random.below(16) {
         0..6 => 0,
         6..12 => random.below(steps + 1),
@@ -68,7 +68,7 @@ fn random_start(steps: usize, random: &mut Random) -> usize {
     }
 }
 
-fn random_budget(random: &mut Random) -> u32 {
+pub fn random_budget(random: &mut Random) -> u32 {
     match random.below(8) {
         0 => 0,
         1..4 => 1 + random.below(8) as u32,
@@ -78,7 +78,7 @@ fn random_budget(random: &mut Random) -> u32 {
 }
 
 /// A set. A CHK of D7 by itself, which no step changes, traps in some boxes and not in others.
-fn random_set(random: &mut Random) -> State {
+pub fn random_set(random: &mut Random) -> State {
     let mut set = junk_set(random);
     if random.below(4) > 0 {
         set.d[7] &= 0xFFFF_7FFF;

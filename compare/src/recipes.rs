@@ -1,4 +1,4 @@
-//! A reading of document 01's recipes, with items 1 and 3 of document 02: from a text to a recipe, from that to a listing,
+//! A reading of document 01's recipes, with items 1, 3 and 4 of document 02: from a text to a recipe, from that to a listing,
 //! from that to what is printed. It is written from the documents alone, with lists and strings. Of the port it has the layout
 //! of the records, as in `steps`, and what the reader fills unused ones with.
 
@@ -23,7 +23,7 @@ pub const BOXES_MAX: usize = 64;
 pub const TEXT_MAX: usize = 1024;
 
 /// As many bytes as the program has room for in what it prints.
-pub const PRINT_MAX: usize = 20_480;
+pub const PRINT_MAX: usize = 24_576;
 
 #[derive(Clone, Copy, PartialEq, Debug)]
 #[repr(u8)]
@@ -218,8 +218,9 @@ pub fn translate(recipe: &Recipe, slots: usize) -> Result<Vec<Step>, Refused> {
     }
     let steps: Vec<Step> = lines
         .iter()
-        .flat_map(|line| steps_of(recipe.width, line))
-        .map(|form| Step { size: Size::Long, form })
+        .zip(2..)
+        .flat_map(|(line, at)| steps_of(recipe.width, line).into_iter().map(move |form| (form, at)))
+        .map(|(form, line)| Step { size: Size::Long, form, line })
         .collect();
     if steps.len() > slots { Err(Refused::at(9, 0)) } else { Ok(steps) }
 }
@@ -247,7 +248,7 @@ fn print(width: u8, listing: &[Step]) -> String {
         let (operation, source, destination, _) = told(step);
         let operation = operation.to_uppercase();
         // A string takes all that is written to it.
-        let _ = writeln!(out, "{place}\t{operation}\tL\t{source}\tD{destination}");
+        let _ = writeln!(out, "{place}\t{operation}\tL\t{source}\tD{destination}\t{}", step.line);
     }
     out + &format!("clocks\t{}\n", clocks(listing))
 }

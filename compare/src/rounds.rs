@@ -7,7 +7,7 @@
 //! two answers take turns.
 
 use crate::machine::Machine;
-use crate::steps::{End, FIRST, Ran, State, Step, answered, registers};
+use crate::steps::{End, FIRST, Ran, State, Step, Told, answered, registers};
 use crate::tuned;
 use std::hint::black_box;
 
@@ -15,7 +15,7 @@ use std::hint::black_box;
 pub const NO_RAN: Ran = Ran { end: End::Budget, next: 0, steps: 0, clocks: 0 };
 
 /// All that was told of a run, and what it left.
-pub fn digest(told: [u64; 6], state: &State) -> u64 {
+pub fn digest(told: Told, state: &State) -> u64 {
     registers(answered(0, told), state)
 }
 

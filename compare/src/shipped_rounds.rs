@@ -50,7 +50,6 @@ fn by_c(words: &[u64], pairs: usize, budget: u32) -> u64 {
     unsafe {
         c_listing_run(2 * pairs, words.as_ptr(), words.len(), &mut d, &mut a, &mut flags, budget, &mut told)
     };
-    let [told @ .., _, _] = told;
     digest(told, &State { d, a, flags: Flags::of(flags) })
 }
 
@@ -71,7 +70,7 @@ fn by_package(words: &[u64], pairs: usize, budget: u32) -> u64 {
     });
     let ran = run();
     let end = u64::from(ran.end == gromavelush::End::Budget);
-    let told = [end, 0, 0, ran.next as u64, ran.steps.into(), ran.clocks];
+    let told = [end, 0, 0, ran.next as u64, ran.steps.into(), ran.clocks, 0, 0];
     digest(told, &State { d: state.d, a: state.a, flags: of_package(state.flags) })
 }
 
@@ -120,7 +119,7 @@ pub unsafe extern "C" fn c_recipe_rounds(text: *const u8, length: usize, pairs: 
     // SAFETY: as in `by_c`.
     unsafe { c_recipe_run(2 * pairs, text, length, &mut d, &mut a, &mut flags, &mut told) };
     let [refused, _, _, steps, clocks, ..] = told;
-    digest([refused, 0, 0, steps, steps, clocks], &State { d, a, flags: Flags::of(flags) })
+    digest([refused, 0, 0, steps, steps, clocks, 0, 0], &State { d, a, flags: Flags::of(flags) })
 }
 
 /// # Safety
@@ -136,7 +135,7 @@ pub unsafe extern "C" fn rust_recipe_rounds(text: *const u8, length: usize, pair
     });
     let (steps, clocks) = run().map_or((0, 0), |ran| (u64::from(ran.steps), ran.clocks));
     let state = State { d: state.d, a: state.a, flags: of_package(state.flags) };
-    digest([0, 0, 0, steps, steps, clocks], &state)
+    digest([0, 0, 0, steps, steps, clocks, 0, 0], &state)
 }
 
 /// A recipe that is read and translated, and not run.

@@ -113,6 +113,7 @@ pub enum Form {
 pub struct Step {
     pub size: Size,
     pub form: Form,
+    pub line: u8,
 }
 
 const TWOS: [Two; 5] = [Two::Add, Two::Sub, Two::Cmp, Two::Addx, Two::Subx];
@@ -125,7 +126,8 @@ const SHIFTS: [Shift; 8] =
 const BITS: [Bit; 4] = [Bit::Btst, Bit::Bset, Bit::Bclr, Bit::Bchg];
 
 impl Step {
-    /// The step's word: the operation, the size, the source's kind and number and the destination, from the lowest byte up.
+    /// The step's word: the operation, the size, the source's kind and number, the destination and the line, from the lowest
+    /// byte up.
     pub fn word(&self) -> u64 {
         let (operation, kind, from, to) = match self.form {
             Form::Two(op, from, to) => (op as u8, 2, from, to),
@@ -140,11 +142,12 @@ impl Step {
             Form::Bit(op, Count::Data(from), to) => (25 + op as u8, 2, from, to),
             Form::Chk(from, to) => (29, 2, from, to),
         };
-        u64::from_le_bytes([operation, self.size as u8, kind, from, to, 0, 0, 0])
+        u64::from_le_bytes([operation, self.size as u8, kind, from, to, self.line, 0, 0])
     }
 
-    /// The step that has these numbers in its word, if there is one.
-    pub fn named([operation, size, kind, from, to]: [u8; 5]) -> Option<Step> {
+    /// The step that a word names, if it names one. The two highest bytes don't count.
+    pub fn named(word: u64) -> Option<Step> {
+        let [operation, size, kind, from, to, line, ..] = word.to_le_bytes();
         let at = usize::from(operation);
         let count = if kind == 1 { Count::Small(from) } else { Count::Data(from) };
         let source = if kind == 2 { Register::Data(from) } else { Register::Address(from) };
@@ -159,7 +162,13 @@ impl Step {
             (29, 2) => Form::Chk(from, to),
             _ => return None,
         };
-        Some(Step { size: *SIZES.get(usize::from(size))?, form })
+        Some(Step { size: *SIZES.get(usize::from(size))?, form, line })
+    }
+
+    /// What a word stands for: if it names no step, a CHK of a byte, with the word's line.
+    pub fn of_word(word: u64) -> Step {
+        let [.., line, _, _] = word.to_le_bytes();
+        Step::named(word).unwrap_or(Step { size: Size::Byte, form: Form::Chk(0, 0), line })
     }
 }
 
@@ -189,13 +198,14 @@ pub enum Stop {
     Trapped(Class, u32),
     Refused(Fault),
 }
+/// A trap and a refusal have their place, and the line of the step there; a start past the end has line 0.
 #[derive(Clone, Copy, PartialEq, Debug)]
 #[repr(u8)]
 pub enum End {
     Finished,
     Budget,
-    Trapped(Class, usize),
-    Refused(Fault, usize),
+    Trapped(Class, usize, u8),
+    Refused(Fault, usize, u8),
 }
 /// What a run says beside the state that it leaves. The port has it so in a rack's slots.
 #[derive(Clone, Copy, PartialEq, Debug)]
@@ -207,17 +217,24 @@ pub struct Ran {
     pub clocks: u64,
 }
 
+/// How many numbers a C function tells.
+pub const TOLD: usize = 8;
+
+pub type Told = [u64; TOLD];
+
 impl Ran {
-    /// The end, the trap's class or the refusal's number, the place of either, the next place, the steps, the clocks.
-    pub fn told(&self) -> [u64; 6] {
+    /// In the order of the C function listing_run: the end, the trap's class or the refusal's number, the place of either, the
+    /// next place, the steps, the clocks, the end's line; then 0.
+    pub fn told(&self) -> Told {
         const NUMBERS: [u64; 4] = [1, 2, 3, 10];
-        let [end, which, place] = match self.end {
-            End::Finished => [0, 0, 0],
-            End::Budget => [1, 0, 0],
-            End::Trapped(class, place) => [2, 1 + class as u64, place as u64],
-            End::Refused(fault, place) => [3, NUMBERS[fault as usize], place as u64],
+        let (end, which, place, line) = match self.end {
+            End::Finished => (0, 0, 0, 0),
+            End::Budget => (1, 0, 0, 0),
+            End::Trapped(class, place, line) => (2, 1 + class as u64, place, line),
+            End::Refused(fault, place, line) => (3, NUMBERS[fault as usize], place, line),
         };
-        [end, which, place, self.next as u64, self.steps.into(), self.clocks]
+        let [place, next] = [place, self.next].map(|place| place as u64);
+        [end, which, place, next, self.steps.into(), self.clocks, line.into(), 0]
     }
 }
 
@@ -282,8 +299,8 @@ pub const MIXED: u32 = 16;
 pub const WILD: u32 = 17;
 
 /// A step made of the random number x: of mixed kinds, all of them done (MIXED); or (WILD) one in sixteen made by y to
-/// be refused, or a CHK that may trap.
-fn step_of(kinds: u32, x: u32, y: u32) -> Step {
+/// be refused, or a CHK that may trap. Its line is any.
+fn step_of(kinds: u32, x: u32, y: u32, line: u8) -> Step {
     let wild = if kinds < WILD { 99 } else { y % 64 };
     let kind = if wild == 4 {
         16
@@ -298,7 +315,7 @@ fn step_of(kinds: u32, x: u32, y: u32) -> Step {
     let small = if wild == 3 { (y / 64 % 36) as u8 } else { s + 1 };
     let source = if wild == 1 { s + 8 } else { s };
     let target = if wild == 0 { r + 8 } else { r };
-    Step { size, form: form_of(kind, k, small, source, target) }
+    Step { size, form: form_of(kind, k, small, source, target), line }
 }
 
 /// Steps without end.
@@ -306,7 +323,8 @@ pub fn steps_of(kinds: u32, seed: u32) -> impl Iterator<Item = Step> {
     let mut x = seed;
     std::iter::repeat_with(move || {
         x = next(x);
-        step_of(kinds, x / 256, next(x) / 256)
+        let y = next(x);
+        step_of(kinds, x / 256, y / 256, (next(y) >> 24) as u8)
     })
 }
 
@@ -322,7 +340,7 @@ fn mixed(sum: u64, value: u64) -> u64 {
 }
 
 /// All that is told of a run; the registers are not in it.
-pub fn answered(sum: u64, told: [u64; 6]) -> u64 {
+pub fn answered(sum: u64, told: Told) -> u64 {
     told.into_iter().fold(sum, mixed)
 }
 

@@ -1,5 +1,5 @@
 //! A hand-tuned Rust loop over step records, executed in place, with document 01's refusals and traps: written after
-//! document 01, its figures after 02's item 3, and not after the port. The proved run is held and measured against it.
+//! document 01, its figures after 02's item 3, its lines after 4, and not after the port. The proved run is held and measured against it.
 
 use crate::steps::*;
 
@@ -346,7 +346,7 @@ impl State {
 pub fn run(listing: &[Step], state: &mut State, start: usize, budget: u32) -> Ran {
     let (mut next, mut steps, mut clocks) = (start, 0u32, 0u64);
     if start > listing.len() {
-        return Ran { end: End::Refused(Fault::StartPastEnd, start), next, steps, clocks };
+        return Ran { end: End::Refused(Fault::StartPastEnd, start, 0), next, steps, clocks };
     }
     loop {
         let Some(step) = listing.get(next) else { return Ran { end: End::Finished, next, steps, clocks } };
@@ -357,13 +357,15 @@ pub fn run(listing: &[Step], state: &mut State, start: usize, budget: u32) -> Ra
             Ok(figure) => clocks += figure as u64,
             Err(Stop::Trapped(class, figure)) => {
                 return Ran {
-                    end: End::Trapped(class, next),
+                    end: End::Trapped(class, next, step.line),
                     next: next + 1,
                     steps: steps + 1,
                     clocks: clocks + figure as u64,
                 };
             }
-            Err(Stop::Refused(fault)) => return Ran { end: End::Refused(fault, next), next, steps, clocks },
+            Err(Stop::Refused(fault)) => {
+                return Ran { end: End::Refused(fault, next, step.line), next, steps, clocks };
+            }
         }
         next += 1;
         steps += 1;

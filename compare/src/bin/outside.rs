@@ -68,7 +68,7 @@ fn changed(letter: char, old: [u32; 8], new: [u32; 8]) -> impl Iterator<Item = S
 /// The registers that a step of the crate changes, its flags and its figure.
 fn done(form: Form) -> String {
     let mut machine = Machine::new(before());
-    let ran = machine.run(&[Step { size: steps::Size::Long, form }], 0, 1);
+    let ran = machine.run(&[Step { size: steps::Size::Long, form, line: 0 }], 0, 1);
     let (old, new) = (before(), machine.state());
     let registers: Vec<String> = changed('D', old.d, new.d).chain(changed('A', old.a, new.a)).collect();
     let Flags { x, n, z, v, c } = new.flags;

@@ -5,7 +5,7 @@
 //! SEED is the random numbers' seed. How often each refusal, each of src/slips.rs and each of `CASES` was met is printed; if one never
 //! was, the status is 2.
 
-use compare::c_functions::{TOLD, recipe_answer, recipe_translate};
+use compare::c_functions::{recipe_answer, recipe_translate};
 use compare::cases::Random;
 use compare::check::Tally;
 use compare::ported_recipes as ported;
@@ -13,7 +13,7 @@ use compare::recipes::{LINES_MAX, Line, PRINT_MAX, Recipe, Refused, SLOTS, STEPS
 use compare::recipes::{answer, read, refused_alike, taken, translate};
 use compare::refusals;
 use compare::slips::{self, Slip};
-use compare::steps::{Form, Size, Step};
+use compare::steps::{Form, Size, Step, TOLD};
 use compare::texts::{self, KINDS, LONGEST};
 use std::collections::BTreeMap;
 use std::fmt::Debug;
@@ -211,7 +211,7 @@ fn wanted<T: Copy>(made: Result<Vec<Step>, Refused>, before: &[T], laid: impl Fn
 }
 
 /// A recipe translated into a row, and by value; what the reading tells of the first. Document 01 doesn't say what a listing
-/// by value has in its other slots: it must be the same step in all answers.
+/// by value has in its other slots: it must be the same step in all answers, by document 02 of line 0.
 fn compare_recipe(recipe: &Recipe, before: &[Step], tally: &mut Tally) -> Told {
     let mut row = before.to_vec();
     let told = ported::translate(recipe, &mut row);
@@ -221,7 +221,7 @@ fn compare_recipe(recipe: &Recipe, before: &[Step], tally: &mut Tally) -> Told {
     let row = array.to_vec();
     let (_, blank) = ported::translate_array(&Recipe::empty(1));
     let (by_value, want_by_value) =
-        (Laid { told, row }, wanted(made(SLOTS), &[blank[0]; SLOTS], Step::clone));
+        (Laid { told, row }, wanted(made(SLOTS), &[Step { line: 0, ..blank[0] }; SLOTS], Step::clone));
     tally.count(lent == want_lent && by_value == want_by_value, || {
         format!(
             "{recipe:?}\n  {} slots: {}\n  reading    {:?}\n  by value   {}\n  reading    {:?}",
@@ -281,7 +281,7 @@ fn compare_by_hand(tally: &mut Tally) {
     for (width, count, [line, one, last], slots, told) in BY_HAND {
         let mut recipe = Recipe { width, count, lines: [line; LINES_MAX] };
         (recipe.lines[17], recipe.lines[LINES_MAX - 1]) = (one, last);
-        let row = vec![Step { size: Size::Word, form: Form::Chk(1, 2) }; slots];
+        let row = vec![Step { size: Size::Word, form: Form::Chk(1, 2), line: 68 }; slots];
         let reading = compare_recipe(&recipe, &row, tally);
         let alike = reading[..3] == told && reading[3] == 0;
         tally.count(alike, || format!("{recipe:?}: the reading {reading:?}, the row {told:?}"));
@@ -292,8 +292,9 @@ fn compare_by_hand(tally: &mut Tally) {
 type Case = fn(&Recipe, Told) -> bool;
 
 /// What must be met in recipes made by hand. Most of it no text can say.
-const CASES: [(&str, Case); 11] = [
+const CASES: [(&str, Case); 12] = [
     ("accepted", |_, told| told[0] == 0),
+    ("accepted, with all lines", |recipe, told| told[0] == 0 && recipe.count == LINES_MAX),
     ("a number above 9 that isn't taken", |recipe, told| {
         told[0] == 0 && recipe.lines[..recipe.count].iter().any(|line| line.b > 9)
     }),

@@ -2,7 +2,8 @@
 //! steps by `perform_in`) against a hand-tuned Rust loop and, where every step is done, against a loop through the crate's
 //! exec functions, to whose figures the known differences are added. What they cost: `alone` and `shipped`.
 //!
-//!   runs agree [LISTINGS]   that all answer the same, on random listings; then as many racks, by `rack` and `rack_run`
+//!   runs agree [LISTINGS]   that all answer the same, on random listings; as many listings with other lines, and in any words; then as
+//!                           many racks, by `rack` and `rack_run`
 //!   runs rack [ROUNDS]      nanoseconds a box of a rack of 64, and of as many single runs
 
 use compare::c_functions::listing_run;
@@ -10,9 +11,9 @@ use compare::cases::Random;
 use compare::machine::Machine;
 use compare::ported;
 use compare::recipes::SLOTS;
-use compare::steps::{FIRST, MIXED, Ran, State, Step, WILD, answered, listing_of, registers};
+use compare::steps::{FIRST, MIXED, Ran, State, Step, Told, WILD, answered, listing_of, registers};
 use compare::tuned;
-use compare::{rack_checks, rack_speed};
+use compare::{line_checks, rack_checks, rack_speed};
 use std::process::ExitCode;
 
 /// Rounds of runs of one listing's first `count` steps, each from the state that the last one left.
@@ -48,7 +49,7 @@ fn by_hand(listing: &[Step; SLOTS], count: usize, state: &mut State, start: usiz
 
 impl Laps {
     /// A digest of what is told of each round.
-    fn summed(self, mut run: impl FnMut() -> [u64; 6]) -> u64 {
+    fn summed(self, mut run: impl FnMut() -> Told) -> u64 {
         (0..self.rounds).fold(0, |sum, _| answered(sum, run()))
     }
 
@@ -58,14 +59,11 @@ impl Laps {
         registers(sum, &state)
     }
 
-    /// By the C function, of the steps in words. It tells two zeros more; anything else there spoils the digest.
+    /// By the C function, of the steps in words.
     fn in_words(self) -> u64 {
         let (listing, mut state) = (listing_of(self.kinds, self.seed), FIRST);
         let words: Vec<u64> = listing[..self.count].iter().map(Step::word).collect();
-        let sum = self.summed(|| match listing_run(&words, &mut state, self.start, self.budget) {
-            [told @ .., 0, 0] => told,
-            _ => [u64::MAX; 6],
-        });
+        let sum = self.summed(|| listing_run(&words, &mut state, self.start, self.budget));
         registers(sum, &state)
     }
 
@@ -119,8 +117,9 @@ fn agree(listings: u32, mut random: Random) -> ExitCode {
         steps += u64::from(laps.rounds) * count as u64;
     }
     println!("total {listings} listings, at most {steps} steps each way, {differ} differ");
-    let (racks_differ, met) = rack_checks::compare(listings, &mut random);
-    match (differ + racks_differ, met) {
+    let (lines_differ, lines_met) = line_checks::compare(listings, &mut random);
+    let (racks_differ, racks_met) = rack_checks::compare(listings, &mut random);
+    match (differ + lines_differ + racks_differ, lines_met && racks_met) {
         (0, true) => ExitCode::SUCCESS,
         (0, false) => ExitCode::from(2),
         _ => ExitCode::FAILURE,
