@@ -31,7 +31,7 @@ extern "C" {
 #define GRO_SLOTS 256  /* the slots of a listing: its first so many steps are run and printed */
 #define GRO_STEPS 256  /* the most steps that a recipe has */
 #define GRO_TEXT 1024  /* the bytes that the programs read of a text; the library takes any length */
-#define GRO_ROOM 20480 /* the bytes that any printed listing has room in */
+#define GRO_ROOM 24576 /* the bytes that any printed listing has room in */
 #define GRO_TOLD 8     /* the numbers that a call tells: those without a meaning are 0 */
 #define GRO_BOXES 64   /* the most boxes of a rack */
 
@@ -68,21 +68,26 @@ uint64_t alu_call(uint8_t operation, uint8_t size, uint32_t src, uint32_t dst, u
 
 /*
  * A step is a word of 64 bits: byte 0 (the lowest) the operation, 1 the size, 2 the source's kind, 3 the source's number, 4 the
- * destination's register number. Byte 3 doesn't count with kind 0. Bytes 5 to 7 are reserved: write 0 there. Today they don't count
- * where a step is run or printed; a later library will read them. The destination of ADDA, SUBA, CMPA, GRO_ADDQA and GRO_SUBQA is an
- * address register, any other a data register. A word that names no step of document 01's forms is refused with 2 where it is run.
- * GRO_STEP takes the low 8 bits of each number, and has 0 in the reserved bytes: test a number that may be above 255 before.
+ * destination's register number, 5 the text line that the step comes from, 0 if it comes from none. Byte 3 doesn't count with kind 0.
+ * Bytes 6 and 7 are reserved: write 0 there. Today they don't count where a step is run or printed; a later library will read them.
+ * The destination of ADDA, SUBA, CMPA, GRO_ADDQA and GRO_SUBQA is an address register, any other a data register. The line changes
+ * nothing that a step does: it is printed, and told where the step traps or is refused. A word that names no step of document 01's forms
+ * is refused with 2 where it is run, and its byte 5 is told all the same. GRO_STEP makes a word with line 0, GRO_STEP_AT one with a
+ * line. Both take the low 8 bits of each number, and have 0 in the reserved bytes: test a number that may be above 255 before.
  */
 enum gro_source { GRO_NONE = 0, GRO_SMALL = 1, GRO_DATA = 2, GRO_ADDRESS = 3 };
 #define GRO_STEP(operation, size, kind, source, destination)                                                              \
     ((uint64_t)(uint8_t)(operation) | (uint64_t)(uint8_t)(size) << 8 | (uint64_t)(uint8_t)(kind) << 16 |                  \
      (uint64_t)(uint8_t)(source) << 24 | (uint64_t)(uint8_t)(destination) << 32)
+#define GRO_STEP_AT(operation, size, kind, source, destination, line)                                                     \
+    (GRO_STEP(operation, size, kind, source, destination) | (uint64_t)(uint8_t)(line) << 40)
 
 /*
  * Runs a listing from place start, at most budget steps. d, a and flags are the state, before and after. A listing longer than
  * GRO_SLOTS is cut: it ends Finished at GRO_SLOTS. Test its length before.
  * told: 0 the end, 1 the trap's class (1 Over, 2 Short, 3 Below) or the refusal's number, 2 the place of either (both 0 where it
- * finished or spent its budget), 3 the next place, 4 the steps done, 5 the sum of their clock figures.
+ * finished or spent its budget), 3 the next place, 4 the steps done, 5 the sum of their clock figures, 6 the line of the step that
+ * trapped or was refused (0 where it finished or spent its budget, and with 10).
  */
 enum gro_end { GRO_FINISHED = 0, GRO_BUDGET = 1, GRO_TRAPPED = 2, GRO_REFUSED = 3 };
 void listing_run(const uint64_t *listing, size_t length, uint32_t d[8], uint32_t a[8], uint8_t *flags, size_t start, uint32_t budget,
@@ -100,11 +105,11 @@ void rack_run(const uint64_t *listing, size_t length, uint32_t *d, size_t d_leng
               uint64_t told[GRO_TOLD]);
 
 /*
- * Prints a listing as the program recipe does, with this width in the first line. A listing longer than GRO_SLOTS is cut: it ends at
- * GRO_SLOTS. Test its length before. Answers how many bytes it wrote, with no 0 behind them; what has no room is left off. GRO_ROOM
- * bytes are enough for any listing. The last line has the sum of the figures that the steps have where all registers and flags are 0:
- * those of a recipe's steps are the same everywhere; a shift, BSET, BCLR or BCHG by a register, or a CHK, may have another in a run,
- * and a step that is refused has 0. A word that names no step prints as CHK B D0 D0.
+ * Prints a listing as the program recipe does, with this width in the first line; the last field of a step is its line. A listing longer
+ * than GRO_SLOTS is cut: it ends at GRO_SLOTS. Test its length before. Answers how many bytes it wrote, with no 0 behind them; what has
+ * no room is left off. GRO_ROOM bytes are enough for any listing. At the end stands the sum of the figures that the steps have where all
+ * registers and flags are 0: those of a recipe's steps are the same everywhere; a shift, BSET, BCLR or BCHG by a register, or a CHK, may
+ * have another in a run, and a step that is refused has 0. A word that names no step prints as CHK B D0 D0 and its byte 5.
  */
 size_t listing_print(uint8_t width, const uint64_t *listing, size_t length, uint8_t *out, size_t room);
 
@@ -114,9 +119,9 @@ size_t listing_print(uint8_t width, const uint64_t *listing, size_t length, uint
  *
  * Reads a text and translates it into a listing of length slots. told: 0 the refusal number (0: none), 1 its text line, counted from 1
  * (0: none, and of 9), 2 the number of steps, 3 the refusal's column: bytes from 1 at the line's start. It is 0 but for 11 to 14: of 11
- * and 13 the field's first byte, of 12 the first field too many or the early byte 10, of 14 the place past the text. The slots past the
- * steps stay; a refusal leaves all. A sound recipe of more steps than there are slots is refused with 9; GRO_STEPS slots are enough for
- * any.
+ * and 13 the field's first byte, of 12 the first field too many or the early byte 10, of 14 the place past the text. Each step has the
+ * text line that it comes from, 2 to GRO_LINES + 1. The slots past the steps stay; a refusal leaves all. A sound recipe of more steps
+ * than there are slots is refused with 9; GRO_STEPS slots are enough for any.
  */
 void recipe_translate(const uint8_t *text, size_t text_length, uint64_t *listing, size_t length, uint64_t told[GRO_TOLD]);
 

@@ -2,8 +2,9 @@
  * hammer [COUNT] [SEED]: random and damaged input for every function, each row in memory of just its size, so that a sanitizer or valgrind
  * sees a byte too many; what is told stands between guard numbers. No reading of document 01 is here (the Rust example hammer has one): one
  * function is held to another. What is translated and printed, or refused, is what recipe_answer prints; what is translated and run is what
- * recipe_run leaves; each box of a rack is what listing_run leaves. Every refusal and every end must be met, and no other. The last line is 'N inputs, M differ'; status 1: one differs, or
- * something was never met.
+ * recipe_run leaves; each box of a rack is what listing_run leaves. Lines are held to what they come from: a step's to the text, the one
+ * that is told to the word at the place. Every refusal and every end must be met, and no other. The last line is 'N inputs, M differ';
+ * status 1: one differs, or something was never met.
  */
 #include "gromavelush.h"
 
@@ -66,7 +67,7 @@ static uint64_t *told_row(void) {
 }
 
 /* After the call: behind the first places, which mean something, all are 0, and the guards as they were. */
-enum { OF_RUN = 6, OF_TRANSLATION = 4, OF_RECIPE = 6, OF_RACK = 2 };
+enum { OF_RUN = 7, OF_TRANSLATION = 4, OF_RECIPE = 6, OF_RACK = 2 };
 static void is_told(const uint64_t *told, unsigned many) {
     unsigned i, good = 1;
     for (i = many; i < GRO_TOLD; i++) good &= told[i] == 0;
@@ -124,23 +125,43 @@ static void try_operation(void) {
 
 /* ---- listings */
 
+/* A step's word, with any line; some name no step. */
 static uint64_t some_word(void) {
     static const uint8_t kinds[OPERATIONS] = {2, 2, 2, 2, 2, 2, 3, 2, 1, 1, 1, 1, 0, 0, 0, 0, 0, 1, 2, 1, 2, 1, 2, 1, 2, 1, 2, 1, 2, 2};
     unsigned operation = below(OPERATIONS), size = operation == GRO_CHK ? GRO_WORD : operation >= GRO_BTST ? GRO_LONG : 1 + below(2);
-    uint64_t word = GRO_STEP(operation, size, kinds[operation], 1 + below(7), below(8));
+    uint64_t word = GRO_STEP_AT(operation, size, kinds[operation], 1 + below(7), below(8), bits());
     switch (below(64)) {
     case 0: return bits();
     case 1: return word ^ (uint64_t)1 << below(40);
-    case 2: return word | bits() << 40;
+    case 2: return word | bits() << 48;
     default: return word;
     }
+}
+
+/* The line that a run tells is that of the word at the place where it trapped or was refused; with 10 there is no such word. */
+static void is_its_line(const uint64_t *listing, const uint64_t *told) {
+    int has_one = told[0] == GRO_TRAPPED || (told[0] == GRO_REFUSED && told[1] != 10);
+    agrees(told[6] == (has_one ? listing[told[2]] >> 40 & 255 : 0), "the line of an end");
+}
+
+/* The same run with other lines: all is the same but the line that is told. */
+static void try_other_lines(uint64_t *listing, size_t length, struct state before, struct state after, size_t start, uint32_t budget, const uint64_t *told) {
+    struct state state = copy_of(before);
+    uint64_t *again = told_row();
+    size_t i;
+    for (i = 0; i < length; i++) listing[i] ^= (bits() & 255) << 40;
+    listing_run(listing, length, state.d, state.a, state.flags, start, budget, again);
+    is_told(again, OF_RUN), is_its_line(listing, again);
+    agrees(!memcmp(told, again, 6 * sizeof *told), "what is told of a run with other lines");
+    agrees(same_registers(after, state) && *after.flags == *state.flags, "the state of a run with other lines");
+    forget(again), drop(state);
 }
 
 static void try_listing(void) {
     size_t length = below(SLOTS + 1), start = below(4) ? 0 : below(4) ? below(SLOTS) : (size_t)bits();
     size_t room = below(8) ? GRO_ROOM : below(400), i;
     uint64_t *listing = (uint64_t *)row(length * sizeof *listing), *told = told_row(), *begun = told_row(), *rest = told_row();
-    struct state whole = some_state(), halted = copy_of(whole);
+    struct state before = some_state(), whole = copy_of(before), halted = copy_of(before);
     uint8_t *out = (uint8_t *)row(room);
     uint32_t budget = (uint32_t)(below(2) ? below(SLOTS) : bits()), first;
     for (i = 0; i < length; i++) listing[i] = some_word();
@@ -151,11 +172,13 @@ static void try_listing(void) {
     listing_run(listing, length, halted.d, halted.a, halted.flags, start, first, begun);
     listing_run(listing, length, halted.d, halted.a, halted.flags, (size_t)begun[3], budget - first, rest);
     is_told(told, OF_RUN), is_told(begun, OF_RUN), is_told(rest, OF_RUN);
-    agrees(!memcmp(told, rest, 4 * sizeof *told) && begun[4] == first, "a run in two");
+    is_its_line(listing, told), is_its_line(listing, begun);
+    agrees(!memcmp(told, rest, 4 * sizeof *told) && told[6] == rest[6] && begun[4] == first, "a run in two");
     agrees(told[4] == first + rest[4] && told[5] == begun[5] + rest[5], "steps and clocks of a run in two");
     agrees(same_registers(whole, halted) && *whole.flags == *halted.flags, "the state of a run in two");
     agrees(listing_print((uint8_t)bits(), listing, length, out, room) <= room, "more is printed than there is room for");
-    free(listing), forget(told), forget(begun), forget(rest), free(out), drop(whole), drop(halted);
+    try_other_lines(listing, length, before, whole, start, budget, told);
+    free(listing), forget(told), forget(begun), forget(rest), free(out), drop(before), drop(whole), drop(halted);
 }
 
 /* ---- racks */
@@ -168,6 +191,7 @@ static void try_box(const uint64_t *listing, size_t length, struct state was, st
     *alone.flags = was.flags[i];
     listing_run(listing, length, alone.d, alone.a, alone.flags, start, budget, told);
     count(&ends, told[0]);
+    is_its_line(listing, told);
     agrees(!memcmp(told, answer, GRO_TOLD * sizeof *told), "what is told of a box");
     agrees(!memcmp(alone.d, left.d + 8 * i, REGISTERS) && !memcmp(alone.a, left.a + 8 * i, REGISTERS) && *alone.flags == left.flags[i], "a box");
     forget(told), drop(alone);
@@ -263,6 +287,19 @@ static size_t printed(const uint8_t *text, const uint64_t *listing, const uint64
     return many;
 }
 
+/* Each step of a sound text has its text line, and 0 in the reserved bytes. A copy has two steps for each long word, any other verb one. */
+static void try_lines(const uint8_t *text, size_t length, const uint64_t *listing, size_t many) {
+    const uint8_t *at = text + sizeof "width\t1", *end = text + length;
+    unsigned width = text[6] - '0', number = 1, left;
+    size_t i = 0;
+    while (at < end) {
+        number++;
+        for (left = memcmp(at, "co", 2) ? width : 2 * width; left; left--, i++) agrees(i < many && listing[i] >> 40 == number, "the line of a step");
+        at = (const uint8_t *)memchr(at, '\n', (size_t)(end - at)) + 1;
+    }
+    agrees(i == many, "the steps of all lines");
+}
+
 /* What is translated and printed, and what is answered: into rows of the same length. */
 static void try_answer(const uint8_t *text, size_t length) {
     size_t room = below(4) ? GRO_ROOM : below(600), slots = below(4) ? GRO_STEPS : below(SLOTS + 1), i, wrote;
@@ -275,9 +312,8 @@ static void try_answer(const uint8_t *text, size_t length) {
     agrees(told[2] <= slots && (told[0] == 0 || told[2] == 0), "the number of steps");
     agrees((told[1] == 0) == (told[0] == 0 || told[0] == 9), "the line of a refusal");
     agrees((told[3] == 0) == (told[0] < 11), "the column of a refusal");
-    for (i = 0; i < slots; i++)
-        if (i < told[2]) agrees(listing[i] >> 40 == 0, "the reserved bytes of a step");
-        else agrees(listing[i] == before[i], "a slot past the steps");
+    for (i = (size_t)told[2]; i < slots; i++) agrees(listing[i] == before[i], "a slot past the steps");
+    if (told[0] == 0) try_lines(text, length, listing, (size_t)told[2]);
     wrote = recipe_answer(text, length, out, room);
     agrees(wrote <= room, "more is answered than there is room for");
     if (told[0] == 9) agrees(wrote == 0 || *out == 'w', "too few slots of a text that is refused");

@@ -56,7 +56,7 @@ static size_t most_of_steps(void (*call)(void)) {
         for (size = 0; size < 4; size++)
             for (kind = 0; kind < 4; kind++) {
                 size_t now;
-                for (i = 0; i < MOST; i++) listing[i] = GRO_STEP(operation, size, kind, i % 9, i % 8);
+                for (i = 0; i < MOST; i++) listing[i] = GRO_STEP_AT(operation, size, kind, i % 9, i % 8, i);
                 now = used(call);
                 if (now > most) most = now;
             }

@@ -12,15 +12,15 @@ enum { GUARD = 64, MARK = 0xA5, MOST = GRO_SLOTS + 44, REGISTERS = 8 };
 
 static const char example[] = "width\t2\nadd\t0\t1\nneg\t1\n";
 static const char printed[] =
-    "width\t2\t4\n0\tADD\tL\tD0\tD2\n1\tADDX\tL\tD1\tD3\n2\tNEG\tL\t-\tD2\n3\tNEGX\tL\t-\tD3\nclocks\t28\n";
+    "width\t2\t4\n0\tADD\tL\tD0\tD2\t2\n1\tADDX\tL\tD1\tD3\t2\n2\tNEG\tL\t-\tD2\t3\n3\tNEGX\tL\t-\tD3\t3\nclocks\t28\n";
 
-/* The example's steps: two of its first line, two of its second. */
+/* The example's steps: two of text line 2, two of 3. */
 enum { STEPS = 4 };
 static const uint64_t steps[STEPS] = {
-    GRO_STEP(GRO_ADD, GRO_LONG, GRO_DATA, 0, 2),
-    GRO_STEP(GRO_ADDX, GRO_LONG, GRO_DATA, 1, 3),
-    GRO_STEP(GRO_NEG, GRO_LONG, GRO_NONE, 0, 2),
-    GRO_STEP(GRO_NEGX, GRO_LONG, GRO_NONE, 0, 3),
+    GRO_STEP_AT(GRO_ADD, GRO_LONG, GRO_DATA, 0, 2, 2),
+    GRO_STEP_AT(GRO_ADDX, GRO_LONG, GRO_DATA, 1, 3, 2),
+    GRO_STEP_AT(GRO_NEG, GRO_LONG, GRO_NONE, 0, 2, 3),
+    GRO_STEP_AT(GRO_NEGX, GRO_LONG, GRO_NONE, 0, 3, 3),
 };
 
 static unsigned long checks, failed;
@@ -101,6 +101,16 @@ static void test_operations(void) {
     }
 }
 
+/* ---- words */
+
+static void test_words(void) {
+    static const uint64_t words[STEPS] = {0x0000020200020200u, 0x0000020301020203u, 0x000003020000020Du, 0x000003030000020Eu};
+    check(memcmp(steps, words, sizeof words) == 0, "the words of the example", 0);
+    check(GRO_STEP(1, 2, 3, 4, 5) == 0x0504030201u, "a word without a line", 0);
+    check(GRO_STEP_AT(1, 2, 3, 4, 5, 6) == 0x060504030201u, "a word with a line", 6);
+    check(GRO_STEP_AT(0, 0, 0, 0, 0, 0x1FF) == 0xFF0000000000u, "the low 8 bits of a line", 0x1FF);
+}
+
 /* ---- translating */
 
 /* Where a text is refused, and with which number; all 0 where it isn't. */
@@ -130,15 +140,15 @@ static void refuse_one(const char *text, uint64_t number, uint64_t line, uint64_
     translate_one(text, strlen(text), MOST, at, steps, 0);
 }
 
-/* A recipe of copies at width 4, and its steps, as many as GRO_STEPS where it has GRO_LINES lines. */
+/* A recipe of copies at width 4, and its steps, as many as GRO_STEPS where it has GRO_LINES lines. Line i is text line i + 2. */
 static size_t copies(char *text, uint64_t *words, size_t lines) {
     size_t at = (size_t)sprintf(text, "width\t4\n"), many = 0, i;
     for (i = 0; i < lines; i++) {
         unsigned k;
         at += (size_t)sprintf(text + at, "copy\t0\t1\n");
         for (k = 0; k < 4 && many < GRO_STEPS; k++) {
-            words[many++] = GRO_STEP(GRO_CLR, GRO_LONG, GRO_NONE, 0, 4 + k);
-            words[many++] = GRO_STEP(GRO_ADD, GRO_LONG, GRO_DATA, k, 4 + k);
+            words[many++] = GRO_STEP_AT(GRO_CLR, GRO_LONG, GRO_NONE, 0, 4 + k, i + 2);
+            words[many++] = GRO_STEP_AT(GRO_ADD, GRO_LONG, GRO_DATA, k, 4 + k, i + 2);
         }
     }
     return many;
@@ -205,6 +215,38 @@ static void test_runs(void) {
     run_one(listing, MOST, GRO_SLOTS + 1, 9, past, 0xFFFFFFFF, 0);
 }
 
+/* A step of line 7, one with each line that there is, which traps, or is refused, or names no step, and one of line 9. */
+static void test_any_line(void) {
+    uint64_t listing[3] = {GRO_STEP_AT(GRO_ADD, GRO_LONG, GRO_DATA, 0, 2, 7), 0, GRO_STEP_AT(GRO_ADD, GRO_LONG, GRO_DATA, 0, 2, 9)};
+    unsigned line;
+    for (line = 0; line < 256; line++) {
+        const uint64_t trapped[GRO_TOLD] = {GRO_TRAPPED, 1, 1, 2, 2, 16, line}, refused[GRO_TOLD] = {GRO_REFUSED, 2, 1, 1, 1, 8, line};
+        listing[1] = GRO_STEP_AT(GRO_CHK, GRO_WORD, GRO_DATA, 3, 0, line);
+        run_one(listing, 3, 0, 9, trapped, 0, 1);
+        listing[1] |= (uint64_t)0xABCD << 48;
+        run_one(listing, 3, 0, 9, trapped, 0, 1);
+        listing[1] = GRO_STEP_AT(GRO_CHK, GRO_LONG, GRO_DATA, 3, 0, line);
+        run_one(listing, 3, 0, 9, refused, 0, 1);
+        listing[1] = GRO_STEP_AT(GRO_ADD, GRO_LONG, GRO_NONE, 0, 0, line);
+        run_one(listing, 3, 0, 9, refused, 0, 1);
+    }
+}
+
+/* A line is told with a trap and a refusal of a step, and nowhere else. */
+static void test_lines(void) {
+    const uint64_t listing[3] = {GRO_STEP_AT(GRO_ADD, GRO_LONG, GRO_DATA, 0, 2, 7), GRO_STEP_AT(GRO_CHK, GRO_WORD, GRO_DATA, 3, 0, 8),
+                                 GRO_STEP_AT(GRO_ADD, GRO_LONG, GRO_DATA, 0, 2, 9)};
+    const uint64_t trapped[GRO_TOLD] = {GRO_TRAPPED, 1, 1, 2, 2, 16, 8}, budget[GRO_TOLD] = {GRO_BUDGET, 0, 0, 1, 1, 8};
+    const uint64_t end[GRO_TOLD] = {GRO_FINISHED, 0, 0, 3, 1, 8}, past[GRO_TOLD] = {GRO_REFUSED, 10, 4, 4};
+    const uint64_t nameless = 0x0000070000000000u, refused[GRO_TOLD] = {GRO_REFUSED, 2, 0, 0, 0, 0, 7};
+    run_one(listing, 3, 0, 9, trapped, 0, 1);
+    run_one(listing, 3, 0, 1, budget, 0, 1);
+    run_one(listing, 3, 2, 9, end, 0, 1);
+    run_one(listing, 3, 4, 9, past, 0xFFFFFFFF, 0);
+    run_one(&nameless, 1, 0, 9, refused, 0xFFFFFFFF, 0);
+    test_any_line();
+}
+
 /* ---- racks */
 
 /* A rack's rows between guards, and how many elements each has. A box's registers tell its place. */
@@ -269,6 +311,26 @@ static void rack_one(size_t boxes, size_t d, size_t a, size_t starts, size_t ans
     rack_done(ran, is, (unsigned long)boxes), rack_done(should, is, (unsigned long)boxes);
 }
 
+/* A trap, a spent budget, a word that names no step behind a step and at once, a start past the end. */
+static void test_lines_of_a_rack(void) {
+    enum { BOXES = 5 };
+    const uint64_t words[4] = {GRO_STEP_AT(GRO_ADDQ, GRO_WORD, GRO_SMALL, 8, 1, 7), GRO_STEP_AT(GRO_CHK, GRO_WORD, GRO_DATA, 0, 1, 8),
+                               GRO_STEP_AT(GRO_CLR, GRO_WORD, GRO_NONE, 0, 1, 9), GRO_STEP_AT(255, 0, 0, 0, 0, 255)};
+    const uint64_t should[BOXES][GRO_TOLD] = {{GRO_TRAPPED, 1, 1, 2, 2, 12, 8},
+                                              {GRO_BUDGET, 0, 0, 3, 2, 14},
+                                              {GRO_REFUSED, 2, 3, 3, 1, 4, 255},
+                                              {GRO_REFUSED, 2, 3, 3, 0, 0, 255},
+                                              {GRO_REFUSED, 10, 5, 5}};
+    const size_t starts[BOXES] = {0, 1, 2, 3, 5};
+    uint32_t d[BOXES * REGISTERS] = {0}, a[BOXES * REGISTERS] = {0};
+    uint64_t answers[BOXES * GRO_TOLD] = {0}, told[GRO_TOLD] = {0};
+    uint8_t flags[BOXES] = {0};
+    unsigned i;
+    for (i = 0; i < BOXES; i++) d[REGISTERS * i] = 10, d[REGISTERS * i + 1] = 5;
+    rack_run(words, 4, d, BOXES * REGISTERS, a, BOXES * REGISTERS, flags, BOXES, starts, BOXES, 2, answers, BOXES * GRO_TOLD, told);
+    check(alike(answers, should, BOXES * GRO_TOLD, sizeof *answers), "what is told of each box", BOXES);
+}
+
 static void test_racks(void) {
     size_t boxes, words;
     for (boxes = 0; boxes <= GRO_BOXES + 2; boxes++) {
@@ -308,9 +370,9 @@ static void test_printing(void) {
     size_t room, wrote;
     unsigned i;
     for (room = 0; room <= sizeof printed + 8; room++) print_one(room);
-    for (i = 0; i < MOST; i++) longest[i] = GRO_STEP(GRO_ADDA, GRO_LONG, GRO_ADDRESS, 255, 255) | (uint64_t)0xABCDEF << 40;
+    for (i = 0; i < MOST; i++) longest[i] = GRO_STEP_AT(GRO_ADDA, GRO_LONG, GRO_ADDRESS, 255, 255, 255) | (uint64_t)0xABCD << 48;
     wrote = listing_print(255, longest, MOST, out, GRO_ROOM);
-    check(wrote < GRO_ROOM && memcmp(out + wrote - 9, "clocks\t0\n", 9) == 0, "room for any listing", (unsigned long)wrote);
+    check(wrote < GRO_ROOM && memcmp(out + wrote - 14, "\t255\nclocks\t0\n", 14) == 0, "room for any listing", (unsigned long)wrote);
     check(marked(out + wrote, GRO_ROOM - wrote), "behind what is printed", 0);
     done(out, GRO_ROOM, "around what is printed", 0);
 }
@@ -344,9 +406,12 @@ static void test_recipes(void) {
 
 int main(void) {
     test_operations();
+    test_words();
     test_translating();
     test_runs();
+    test_lines();
     test_racks();
+    test_lines_of_a_rack();
     test_printing();
     test_recipes();
     printf("%lu checks, %lu failed\n", checks, failed);

@@ -1,14 +1,15 @@
-//! A listing made by hand, halted by its budget, continued into a CHK that traps, and continued after it.
+//! A listing made by hand, halted by its budget, continued into a CHK that traps, and continued after it. Its steps have lines of
+//! their own, and the trap tells which.
 
 use gromavelush::{D, Form, Listing, OneOp, QuickOp, Ran, Register, Size, State, Step, TooLong, run};
 
-/// Adds 8 to D1, checks it against the bound in D0, clears D1.
+/// Adds 8 to D1, checks it against the bound in D0, clears D1: lines 7 to 9.
 fn listing() -> Result<Listing, TooLong> {
-    let word = |form| Step { size: Size::Word, form };
+    let word = |line, form| Step { size: Size::Word, form, line };
     Listing::new(&[
-        word(Form::Quick(QuickOp::Addq, 8, Register::Data(D(1)))),
-        word(Form::Chk(D(0), D(1))),
-        word(Form::One(OneOp::Clr, D(1))),
+        word(7, Form::Quick(QuickOp::Addq, 8, Register::Data(D(1)))),
+        word(8, Form::Chk(D(0), D(1))),
+        word(9, Form::One(OneOp::Clr, D(1))),
     ])
 }
 

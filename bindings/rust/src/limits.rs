@@ -13,7 +13,7 @@ pub const RECIPE_STEPS: usize = 256;
 pub const MOST_BOXES: usize = 64;
 
 /// Bytes enough for what is printed of any listing.
-pub(crate) const ROOM: usize = 20_480;
+pub(crate) const ROOM: usize = 24_576;
 
 /// The numbers that a call of the library tells: `GRO_TOLD`. Those without a meaning are 0.
 pub(crate) const TOLD: usize = 8;

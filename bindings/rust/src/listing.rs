@@ -13,7 +13,7 @@ use std::fmt::{self, Display, Formatter};
 /// ```
 /// use gromavelush::{D, Form, Listing, MOST_STEPS, OneOp, Size, Step};
 ///
-/// let step = Step { size: Size::Long, form: Form::One(OneOp::Neg, D(0)) };
+/// let step = Step::new(Size::Long, Form::One(OneOp::Neg, D(0)));
 /// assert_eq!(Listing::new(&[step; MOST_STEPS])?.steps().len(), MOST_STEPS);
 /// assert!(Listing::new(&[step; MOST_STEPS + 1]).is_err());
 /// # Ok::<(), gromavelush::TooLong>(())
@@ -89,6 +89,8 @@ pub enum End {
         class: Trap,
         /// Its place.
         place: usize,
+        /// Its line.
+        line: u8,
     },
     /// A step was refused. It doesn't count, and the next place is that step; with `StartPastEnd` the start place.
     Refused {
@@ -96,6 +98,8 @@ pub enum End {
         refusal: Refusal,
         /// Its place.
         place: usize,
+        /// Its line; 0 with `StartPastEnd`.
+        line: u8,
     },
 }
 
@@ -121,14 +125,20 @@ fn trap_of(class: u64) -> Trap {
     }
 }
 
+/// A line is one byte.
+fn line_of(line: u64) -> u8 {
+    u8::try_from(line).unwrap_or_else(|_| other_version("the line", line))
+}
+
 impl Ran {
-    pub(crate) fn told([end, which, place, next, steps, clocks, ..]: [u64; TOLD]) -> Ran {
+    pub(crate) fn told([end, which, place, next, steps, clocks, line, _]: [u64; TOLD]) -> Ran {
         let place = place as usize;
+        let line = line_of(line);
         let end = match end {
             0 => End::Finished,
             1 => End::Budget,
-            2 => End::Trapped { class: trap_of(which), place },
-            3 => End::Refused { refusal: Refusal::of(which), place },
+            2 => End::Trapped { class: trap_of(which), place, line },
+            3 => End::Refused { refusal: Refusal::of(which), place, line },
             _ => other_version("the end", end),
         };
         Ran { end, next: next as usize, steps: steps as u32, clocks }
@@ -141,7 +151,7 @@ impl Ran {
 /// ```
 /// use gromavelush::{D, End, Form, Listing, OneOp, Size, State, Step, TwoOp, run};
 ///
-/// let long = |form| Step { size: Size::Long, form };
+/// let long = |form| Step::new(Size::Long, form);
 /// let listing = Listing::new(&[
 ///     long(Form::Two(TwoOp::Add, D(0), D(1))),
 ///     long(Form::One(OneOp::Neg, D(1))),
@@ -159,13 +169,13 @@ pub fn run(listing: &Listing, state: &mut State, start: usize, budget: u32) -> R
 }
 
 /// Runs a listing of words that come from elsewhere. A longer one than [`MOST_STEPS`] is cut: it ends `Finished` there. A word
-/// that names no step is refused with 2.
+/// that names no step is refused with 2, and its line told.
 ///
 /// ```
 /// use gromavelush::{End, Refusal, State, run_words};
 ///
-/// let ran = run_words(&[0xFF], &mut State::default(), 0, 1);
-/// assert_eq!(ran.end, End::Refused { refusal: Refusal::NoSuchSize, place: 0 });
+/// let ran = run_words(&[0x07_00_00_00_00_FF], &mut State::default(), 0, 1);
+/// assert_eq!(ran.end, End::Refused { refusal: Refusal::NoSuchSize, place: 0, line: 7 });
 /// ```
 pub fn run_words(words: &[u64], state: &mut State, start: usize, budget: u32) -> Ran {
     Ran::told(state.lent(|registers| sys::listing_run(words, registers, start, budget)))
@@ -176,11 +186,15 @@ mod tests {
     use super::*;
     use std::panic::catch_unwind;
 
-    /// An end, a trap and a refusal that there isn't.
+    /// An end, a trap, a refusal and a line that there isn't.
     #[test]
     fn what_is_not_known_is_not_guessed() {
         for (end, which) in [(4, 0), (u64::MAX, 0), (2, 0), (2, 4), (3, 0), (3, 256 + 2), (3, u64::MAX)] {
             let told = [end, which, 0, 0, 0, 0, 0, 0];
+            assert!(catch_unwind(|| Ran::told(told)).is_err(), "{told:?}");
+        }
+        for line in [256, u64::MAX] {
+            let told = [2, 1, 0, 0, 0, 0, line, 0];
             assert!(catch_unwind(|| Ran::told(told)).is_err(), "{told:?}");
         }
     }

@@ -23,7 +23,7 @@ use crate::types::{Flags, Refusal};
 /// let answers = rack(&listing, &mut states, &[0, 0, 3], 100)?;
 /// assert_eq!(states.map(|state| state.number(2, 1)), [0x1_0000_0000, 0x1_0000_0001, 0xFFFF_FFFF].map(Some));
 /// assert_eq!(answers[1].end, End::Finished);
-/// assert_eq!(answers[2].end, End::Refused { refusal: Refusal::StartPastEnd, place: 3 });
+/// assert_eq!(answers[2].end, End::Refused { refusal: Refusal::StartPastEnd, place: 3, line: 0 });
 /// assert_eq!(rack(&listing, &mut states, &[0, 0], 100), Err(Refusal::TooManyBoxes));
 /// # Ok::<(), Box<dyn std::error::Error>>(())
 /// ```
@@ -49,8 +49,9 @@ pub fn rack(
 
 /// The same over rows of numbers, as the library takes them: as many boxes as there are flags, and of each eight words of `d`,
 /// of `a` and of `answers`: 0 Finished, 1 Budget, 2 Trapped or 3 Refused; a trap's class or a refusal's number; its place; the
-/// next place; the steps; the clocks; 0; 0. What lies behind the boxes' words stays. Answers how many boxes were run. A row that
-/// is too short is refused too, and then nothing is written. Words are taken as [`run_words`](crate::run_words) takes them.
+/// next place; the steps; the clocks; the line of the step that trapped or was refused; 0. What lies behind the boxes' words
+/// stays. Answers how many boxes were run. A row that is too short is refused too, and then nothing is written. Words are taken
+/// as [`run_words`](crate::run_words) takes them.
 ///
 /// ```
 /// use gromavelush::{Refusal, rack_run};

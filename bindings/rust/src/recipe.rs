@@ -164,13 +164,13 @@ fn translate_words(text: &[u8], words: &mut [u64]) -> Result<usize, Refused> {
 
 /// The listing of a recipe text: `width`, a tab and 1, 2 or 4 on the first line, then up to
 /// [`MOST_LINES`](crate::MOST_LINES) lines of a [`Verb`] and its numbers, one digit each. Fields are parted by one tab, and
-/// each line ends with byte 10.
+/// each line ends with byte 10. Each step has the text line that it comes from.
 ///
 /// ```
 /// use gromavelush::{Refusal, translate};
 ///
 /// let listing = translate(b"width\t2\nneg\t1\n")?;
-/// assert_eq!(listing.steps()[1].to_string(), "NEGX\tL\t-\tD3");
+/// assert_eq!(listing.steps()[1].to_string(), "NEGX\tL\t-\tD3\t2");
 /// let refused = translate(b"width\t4\nadd\t0\tx\n").unwrap_err();
 /// assert_eq!((refused.refusal, refused.line, refused.column), (Refusal::NotADigit, 2, 7));
 /// # Ok::<(), gromavelush::Refused>(())
@@ -187,7 +187,7 @@ pub fn translate(text: &[u8]) -> Result<Listing, Refused> {
 /// ```
 /// use gromavelush::{D, Form, OneOp, Refusal, Size, Step, translate_into};
 ///
-/// let blank = Step { size: Size::Long, form: Form::One(OneOp::Clr, D(7)) };
+/// let blank = Step::new(Size::Long, Form::One(OneOp::Clr, D(7)));
 /// let mut slots = [blank; 3];
 /// assert_eq!(translate_into(b"width\t2\nneg\t1\n", &mut slots)?, 2);
 /// assert_eq!(slots[2], blank);
@@ -214,7 +214,7 @@ fn printed(print: impl FnOnce(&mut [u8]) -> usize) -> String {
     String::from_utf8_lossy(&out).into_owned()
 }
 
-/// A listing as the program `recipe` prints it, with this width in the first line.
+/// A listing as the program `recipe` prints it, with this width in the first line; the last field of a step is its line.
 ///
 /// The sum in the last line is of the figures that the steps have with all registers and flags 0. A step of a recipe has
 /// the same figure always; a shift, BSET, BCLR or BCHG by a data register, or a CHK, may take other clocks in a run, and a step that is refused
@@ -224,7 +224,7 @@ fn printed(print: impl FnOnce(&mut [u8]) -> usize) -> String {
 /// use gromavelush::{print, translate};
 ///
 /// let listing = translate(b"width\t2\nadd\t0\t1\n")?;
-/// assert_eq!(print(2, &listing), "width\t2\t2\n0\tADD\tL\tD0\tD2\n1\tADDX\tL\tD1\tD3\nclocks\t16\n");
+/// assert_eq!(print(2, &listing), "width\t2\t2\n0\tADD\tL\tD0\tD2\t2\n1\tADDX\tL\tD1\tD3\t2\nclocks\t16\n");
 /// # Ok::<(), gromavelush::Refused>(())
 /// ```
 pub fn print(width: u8, listing: &Listing) -> String {

@@ -53,15 +53,19 @@ pub enum Form {
 /// One step of a listing.
 ///
 /// A step can be written with a size that its operation hasn't, a register above 7 or a small number out of range: the
-/// machine refuses it where it is run, with 2, 3 or 1.
+/// machine refuses it where it is run, with 2, 3 or 1. The line changes nothing that a step does: it is printed, and told
+/// where the step traps or is refused.
 ///
 /// ```
 /// use gromavelush::{D, Form, Size, Step, TwoOp};
 ///
-/// let step = Step { size: Size::Long, form: Form::Two(TwoOp::Add, D(0), D(2)) };
-/// assert_eq!(step.to_string(), "ADD\tL\tD0\tD2");
+/// let step = Step::new(Size::Long, Form::Two(TwoOp::Add, D(0), D(2)));
+/// assert_eq!(step.to_string(), "ADD\tL\tD0\tD2\t0");
 /// assert_eq!(step.word(), 0x02_00_02_02_00);
-/// assert_eq!(Step::try_from(0x02_00_02_02_00), Ok(step));
+/// let step = step.with_line(7);
+/// assert_eq!(step.to_string(), "ADD\tL\tD0\tD2\t7");
+/// assert_eq!(step.word(), 0x07_02_00_02_02_00);
+/// assert_eq!(Step::try_from(0x07_02_00_02_02_00), Ok(step));
 /// ```
 #[derive(Clone, Copy, PartialEq, Eq, Hash, Debug)]
 pub struct Step {
@@ -69,6 +73,8 @@ pub struct Step {
     pub size: Size,
     /// The operation and its operands.
     pub form: Form,
+    /// The text line that it comes from, 0 if it comes from none: a recipe's first line is text line 2.
+    pub line: u8,
 }
 
 /// A word that is not the word of any step.
@@ -162,25 +168,36 @@ impl Form {
 
 impl Step {
     /// What a word stands for in the library that names no step: a CHK of a byte, which is refused with 2.
-    const REFUSED: Step = Step { size: Size::Byte, form: Form::Chk(D(0), D(0)) };
+    const REFUSED: Step = Step::new(Size::Byte, Form::Chk(D(0), D(0)));
+
+    /// A step that comes from no text: its line is 0.
+    pub const fn new(size: Size, form: Form) -> Step {
+        Step { size, form, line: 0 }
+    }
+
+    /// The same step with another line.
+    pub const fn with_line(self, line: u8) -> Step {
+        Step { line, ..self }
+    }
 
     /// The step's word: byte 0 (the lowest) the operation, 1 the size, 2 the source's kind, 3 the source's number, 4 the
-    /// destination's number; 5 to 7 are reserved, and 0. `bindings/c/gromavelush.h` has the numbers.
+    /// destination's number, 5 the line; 6 and 7 are reserved, and 0. `bindings/c/gromavelush.h` has the numbers.
     pub fn word(self) -> u64 {
         let (operation, (kind, source), to) = self.form.bytes();
-        u64::from_le_bytes([operation, self.size.number(), kind, source, to, 0, 0, 0])
+        u64::from_le_bytes([operation, self.size.number(), kind, source, to, self.line, 0, 0])
     }
 
     /// The step that a word names. As in the library of today the reserved bytes don't count.
     fn named(word: u64) -> Option<Step> {
-        let [operation, size, kind, source, to, ..] = word.to_le_bytes();
+        let [operation, size, kind, source, to, line, ..] = word.to_le_bytes();
         let size = Size::ALL.get(usize::from(size)).copied()?;
-        Some(Step { size, form: Form::named(operation, kind, source, to)? })
+        Some(Step { size, form: Form::named(operation, kind, source, to)?, line })
     }
 
-    /// The step that the library runs for a word.
+    /// The step that the library runs for a word. Where the word names none it has the word's line all the same.
     pub(crate) fn of(word: u64) -> Step {
-        Step::named(word).unwrap_or(Step::REFUSED)
+        let [.., line, _, _] = word.to_le_bytes();
+        Step::named(word).unwrap_or(Step::REFUSED.with_line(line))
     }
 }
 
@@ -230,7 +247,8 @@ impl Display for Count {
     }
 }
 
-/// Operation, size letter, source and destination with tabs between, as the program `recipe` prints them behind the place.
+/// Operation, size letter, source, destination and line with tabs between, as the program `recipe` prints them behind the
+/// place.
 impl Display for Step {
     fn fmt(&self, f: &mut Formatter) -> fmt::Result {
         let size = self.size;
@@ -242,6 +260,19 @@ impl Display for Step {
             Form::Shift(op, count, to) => write!(f, "{op}\t{size}\t{count}\t{to}"),
             Form::Bit(op, count, to) => write!(f, "{op}\t{size}\t{count}\t{to}"),
             Form::Chk(bound, to) => write!(f, "CHK\t{size}\t{bound}\t{to}"),
-        }
+        }?;
+        write!(f, "\t{}", self.line)
+    }
+}
+
+#[cfg(test)]
+mod tests {
+    use super::*;
+
+    /// An ADD without a source, with a line and something in the reserved bytes.
+    #[test]
+    fn a_word_that_names_no_step_has_its_line() {
+        assert_eq!(Step::of(0xABCD_0700_0000_0000), Step::REFUSED.with_line(7));
+        assert!(Step::try_from(0x0000_0700_0000_0000).is_err());
     }
 }

@@ -41,19 +41,18 @@ fn form_of(operation: u8, kind: u8, from: u8, to: u8) -> Option<Form> {
     }
 }
 
-/// What a word stands for that names no step.
-const REFUSED: Step = Step { size: Size::Byte, form: Form::Chk(0, 0) };
-
+/// Where a word names no step, one that is refused, with the word's line.
 pub fn step_of(word: u64) -> Step {
-    let [operation, size, kind, from, to, ..] = word.to_le_bytes();
+    let [operation, size, kind, from, to, line, ..] = word.to_le_bytes();
     let size = [Size::Byte, Size::Word, Size::Long].get(usize::from(size)).copied();
     match (size, form_of(operation, kind, from, to)) {
-        (Some(size), Some(form)) => Step { size, form },
-        _ => REFUSED,
+        (Some(size), Some(form)) => Step { size, form, line },
+        _ => Step { size: Size::Byte, form: Form::Chk(0, 0), line },
     }
 }
 
-/// Words of steps that are all done, of some that are refused or trap, with a byte changed here and there, or any.
+/// Words of steps that are all done, of some that are refused or trap, with a byte changed here and there, or any. Their lines are
+/// any.
 pub fn some_words(random: &mut Random) -> Vec<u64> {
     let kinds = random.pick(&[MIXED, WILD]);
     let how = random.below(4);
@@ -64,12 +63,12 @@ pub fn some_words(random: &mut Random) -> Vec<u64> {
         _ => random.below(LONGEST + 1),
     };
     let words = steps.take(length).map(|step| {
-        let word = step.word();
+        let word = Step { line: random.bits() as u8, ..step }.word();
         match random.below(64) {
             0 if how == 1 => word ^ 1 << random.below(40),
             1 if how == 1 => word & !(0xFF << 16) | random.bits() & 0xFF << 16,
-            _ if how == 2 => word | random.bits() << 40,
-            _ if how == 3 => random.bits() & 0x0F_1F03_031F,
+            _ if how == 2 => word | random.bits() << 48,
+            _ if how == 3 => random.bits() & 0xFF0F_1F03_031F,
             _ => word,
         }
     });
@@ -77,13 +76,15 @@ pub fn some_words(random: &mut Random) -> Vec<u64> {
 }
 
 pub fn told_of_safe(ran: &safe::Ran) -> [u64; TOLD] {
-    let [end, which, place] = match ran.end {
-        safe::End::Finished => [0, 0, 0],
-        safe::End::Budget => [1, 0, 0],
-        safe::End::Trapped { class, place } => [2, 1 + class as u64, place as u64],
-        safe::End::Refused { refusal, place } => [3, refusal.number().into(), place as u64],
+    let [end, which, place, line] = match ran.end {
+        safe::End::Finished => [0, 0, 0, 0],
+        safe::End::Budget => [1, 0, 0, 0],
+        safe::End::Trapped { class, place, line } => [2, 1 + class as u64, place as u64, line.into()],
+        safe::End::Refused { refusal, place, line } => {
+            [3, refusal.number().into(), place as u64, line.into()]
+        }
     };
-    told_of(&[end, which, place, ran.next as u64, ran.steps.into(), ran.clocks])
+    told_of(&[end, which, place, ran.next as u64, ran.steps.into(), ran.clocks, line])
 }
 
 pub fn some_start(random: &mut Random, length: usize) -> usize {
@@ -195,7 +196,7 @@ fn printed(width: u8, steps: &[Step]) -> String {
     for (place, step) in steps.iter().enumerate() {
         let (operation, from, to) = fields(step.form);
         let size = ["B", "W", "L"][step.size as usize];
-        text += &format!("{place}\t{}\t{size}\t{from}\t{to}\n", operation.to_uppercase());
+        text += &format!("{place}\t{}\t{size}\t{from}\t{to}\t{}\n", operation.to_uppercase(), step.line);
     }
     text + &format!("clocks\t{}\n", steps.iter().map(figure).sum::<u64>())
 }
@@ -219,13 +220,15 @@ fn try_print(random: &mut Random, words: &Row<u64>, steps: &[Step], tally: &mut 
     }
 }
 
-/// A word is a step of the package exactly if it is a step's word.
+/// A word is a step of the package exactly if it is a step's word; it has the same line then.
 fn try_words(words: &[u64], tally: &mut Tally) {
     for &word in words.iter().take(8) {
         let step = step_of(word);
-        let is_its_word = step.word() == word;
+        let want = (step.word() == word).then_some((word, step.line));
         let got = safe::Step::try_from(word);
-        tally.agrees(got.is_ok() == is_its_word, || format!("Step::try_from({word:x}): {got:?}"));
+        tally.agrees(got.ok().map(|step| (step.word(), step.line)) == want, || {
+            format!("Step::try_from({word:x}): {got:?}")
+        });
     }
 }
 

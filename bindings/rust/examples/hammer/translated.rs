@@ -45,7 +45,8 @@ fn told(refused: safe::Refused) -> Refused {
 pub fn try_into(random: &mut Random, text: &[u8], want: &Wanted, tally: &mut Tally) {
     let length = random.below(LONGEST + 1);
     let to = safe::D(random.bits() as u8);
-    let blank = safe::Step { size: safe::Size::Word, form: safe::Form::Chk(safe::D(99), to) };
+    let line = random.bits() as u8;
+    let blank = safe::Step { size: safe::Size::Word, form: safe::Form::Chk(safe::D(99), to), line };
     let mut slots = vec![blank; length];
     let into = safe::translate_into(text, &mut slots).map_err(told);
     let want = words(want, length);

@@ -51,13 +51,13 @@ impl Rows {
 }
 
 fn told(ran: &Ran) -> [u64; 8] {
-    let [end, which, place] = match ran.end {
-        End::Finished => [0, 0, 0],
-        End::Budget => [1, 0, 0],
-        End::Trapped { class, place } => [2, 1 + class as u64, place as u64],
-        End::Refused { refusal, place } => [3, refusal.number().into(), place as u64],
+    let [end, which, place, line] = match ran.end {
+        End::Finished => [0, 0, 0, 0],
+        End::Budget => [1, 0, 0, 0],
+        End::Trapped { class, place, line } => [2, 1 + class as u64, place as u64, line.into()],
+        End::Refused { refusal, place, line } => [3, refusal.number().into(), place as u64, line.into()],
     };
-    [end, which, place, ran.next as u64, ran.steps.into(), ran.clocks, 0, 0]
+    [end, which, place, ran.next as u64, ran.steps.into(), ran.clocks, line, 0]
 }
 
 // ---- the examples
@@ -111,7 +111,8 @@ fn the_examples() {
 fn some_listing(random: &mut Random) -> Listing {
     let forms = forms();
     let length = random.below(24);
-    let some = |_| Step { size: random.pick(&Size::ALL), form: random.pick(&forms) };
+    let some =
+        |_| Step { size: random.pick(&Size::ALL), form: random.pick(&forms), line: random.bits() as u8 };
     Listing::new(&(0..length).map(some).collect::<Vec<_>>()).expect("a few steps")
 }
 
@@ -144,11 +145,25 @@ fn each_box_is_its_single_run() {
     }
 }
 
+/// A trap, a spent budget, a word that names no step behind a step and at once, a start past the end.
+#[test]
+fn each_box_tells_its_line() {
+    let words = [0x07_01_08_01_01_08, 0x08_01_00_02_01_1D, 0x09_01_00_00_01_0C, 0xFF_00_00_00_00_FF];
+    let mut rows = Rows::of(&[State { d: [10, 5, 0, 0, 0, 0, 0, 0], ..State::default() }; 5], 5);
+    let Rows { d, a, flags, answers } = &mut rows;
+    assert_eq!(rack_run(&words, d, a, flags, &[0, 1, 2, 3, 5], 2, answers), Ok(5));
+    let trapped = [2, 1, 1, 2, 2, 12, 8, 0];
+    let spent = [1, 0, 0, 3, 2, 14, 0, 0];
+    let refused = [3, 2, 3, 3, 1, 4, 0xFF, 0];
+    let at_once = [3, 2, 3, 3, 0, 0, 0xFF, 0];
+    let past = [3, 10, 5, 5, 0, 0, 0, 0];
+    assert_eq!(answers[..], [trapped, spent, refused, at_once, past].concat());
+}
+
 /// More boxes than there may be, and each row one too short, or empty: refused, and nothing is written.
 #[test]
 fn too_many_or_too_short() {
-    let listing =
-        Listing::new(&[Step { size: Size::Long, form: Form::One(OneOp::Not, D(0)) }]).expect("a step");
+    let listing = Listing::new(&[Step::new(Size::Long, Form::One(OneOp::Not, D(0)))]).expect("a step");
     let mut random = Random(15);
     for (boxes, short) in
         [(65, 0), (100, 0), (64, 1), (64, 2), (64, 3), (64, 4), (1, 1), (1, 2), (1, 3), (1, 4), (5, 4)]

@@ -12,7 +12,7 @@ const STATE: State = State {
 };
 
 /// What a slot holds that nothing is laid into.
-const MARK: Step = Step { size: Size::Word, form: Form::Chk(D(200), D(100)) };
+const MARK: Step = Step::new(Size::Word, Form::Chk(D(200), D(100)));
 
 /// A text's refusal by the translator, which leaves the slots, as many or few as there are; by what is printed; and by a run
 /// that leaves the state.
@@ -31,14 +31,15 @@ fn refused(text: &[u8], number: u8, line: usize, column: usize) {
     assert_eq!(state, STATE);
 }
 
-/// A step's refusal, at place 1 behind a step that is done.
+/// A step's refusal, at place 1 behind a step that is done. Its line is told.
 fn step_refused(size: Size, form: Form, number: u8) {
-    let first = Step { size: Size::Long, form: Form::One(OneOp::Not, D(0)) };
-    let listing = Listing::new(&[first, Step { size, form }]).expect("two steps");
+    let first = Step::new(Size::Long, Form::One(OneOp::Not, D(0))).with_line(2);
+    let listing = Listing::new(&[first, Step { size, form, line: 3 }, first]).expect("three steps");
     let mut state = STATE;
     let ran = run(&listing, &mut state, 0, 9);
-    let End::Refused { refusal, place } = ran.end else { panic!("{:?}", ran.end) };
-    assert_eq!((refusal.number(), place, ran.next, ran.steps, ran.clocks), (number, 1, 1, 1, 6));
+    let End::Refused { refusal, place, line } = ran.end else { panic!("{:?}", ran.end) };
+    assert_eq!((refusal.number(), place, line), (number, 1, 3));
+    assert_eq!((ran.next, ran.steps, ran.clocks), (1, 1, 6));
     assert_eq!(state.d[0], !1);
     assert_eq!((&state.d[1..], state.a), (&STATE.d[1..], STATE.a));
 }
@@ -83,12 +84,13 @@ fn number_2_words_that_name_no_step() {
     let mut random = Random(2);
     let mut met = 0;
     for _ in 0..20_000 {
-        let word = random.bits() & random.bits() & 0xFF_FFFF_FFFF;
+        let word = random.bits() & random.bits() & 0xFFFF_FFFF_FFFF;
         // CLR and its like have no source, and take any number of one
         let without_source = word & !0xFF00_0000;
         if Step::try_from(word).is_err() && Step::try_from(without_source).is_err() {
             let ran = run_words(&[word], &mut STATE.clone(), 0, 9);
-            assert_eq!(ran.end, End::Refused { refusal: Refusal::NoSuchSize, place: 0 }, "{word:x}");
+            let line = (word >> 40) as u8;
+            assert_eq!(ran.end, End::Refused { refusal: Refusal::NoSuchSize, place: 0, line }, "{word:x}");
             met += 1;
         }
     }
@@ -208,13 +210,13 @@ fn number_9_slots_and_slots_past_the_listing() {
 
 #[test]
 fn number_10_start_places() {
-    let step = Step { size: Size::Long, form: Form::One(OneOp::Not, D(0)) };
+    let step = Step::new(Size::Long, Form::One(OneOp::Not, D(0))).with_line(5);
     for length in [0, 1, MOST_STEPS] {
         let listing = Listing::new(&vec![step; length]).expect("not too many steps");
         for start in [length + 1, length + 2, usize::MAX] {
             let mut state = STATE;
             let ran = run(&listing, &mut state, start, 5);
-            let end = End::Refused { refusal: Refusal::StartPastEnd, place: start };
+            let end = End::Refused { refusal: Refusal::StartPastEnd, place: start, line: 0 };
             assert_eq!(ran, Ran { end, next: start, steps: 0, clocks: 0 });
             assert_eq!(state, STATE);
         }
@@ -223,7 +225,7 @@ fn number_10_start_places() {
     }
     let place = MOST_STEPS + 1;
     let ran = run_words(&[step.word(); MOST_STEPS + 44], &mut STATE.clone(), place, 5);
-    assert_eq!(ran.end, End::Refused { refusal: Refusal::StartPastEnd, place });
+    assert_eq!(ran.end, End::Refused { refusal: Refusal::StartPastEnd, place, line: 0 });
 }
 
 #[test]

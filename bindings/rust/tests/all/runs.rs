@@ -1,11 +1,11 @@
-//! Runs: halted after every step and continued, budgets, traps of each class.
+//! Runs: halted after every step and continued, budgets, traps of each class, lines.
 
 use gromavelush::*;
 
 use crate::common::{Random, forms};
 
 fn word(form: Form) -> Step {
-    Step { size: Size::Word, form }
+    Step::new(Size::Word, form)
 }
 
 /// A CHK of D1 against D0 in the middle of three steps, on such a value and bound.
@@ -24,7 +24,7 @@ fn traps_of_each_class() {
         [(6, 5, Trap::Over, 8), (0x8000, 1, Trap::Short, 8), (0x8000, 0, Trap::Below, 10)]
     {
         let (first, rest, state) = checked(value, bound);
-        let end = End::Trapped { class, place: 1 };
+        let end = End::Trapped { class, place: 1, line: 0 };
         assert_eq!(first, Ran { end, next: 2, steps: 2, clocks: 4 + figure });
         assert_eq!(rest, Ran { end: End::Finished, next: 3, steps: 1, clocks: 4 });
         assert_eq!(state.d[2], 0);
@@ -38,7 +38,7 @@ fn a_trap_keeps_its_flags() {
     let listing = Listing::new(&[word(Form::Chk(D(0), D(1)))]).expect("a step");
     let mut state = State { d: [0, 0xFFFF, 0, 0, 0, 0, 0, 0], flags: Flags::of(31), ..State::default() };
     let ran = run(&listing, &mut state, 0, 1);
-    assert_eq!(ran.end, End::Trapped { class: Trap::Below, place: 0 });
+    assert_eq!(ran.end, End::Trapped { class: Trap::Below, place: 0, line: 0 });
     assert_eq!(state.flags.to_string(), "XN---");
 }
 
@@ -55,8 +55,9 @@ fn a_budget_of_nothing_does_nothing() {
 fn some_listing(random: &mut Random) -> Listing {
     let forms = forms();
     let length = random.below(60) as usize;
-    let steps: Vec<Step> =
-        (0..length).map(|_| Step { size: random.pick(&Size::ALL), form: random.pick(&forms) }).collect();
+    let mut some =
+        || Step { size: random.pick(&Size::ALL), form: random.pick(&forms), line: random.bits() as u8 };
+    let steps: Vec<Step> = (0..length).map(|_| some()).collect();
     Listing::new(&steps).expect("fewer than 60 steps")
 }
 
@@ -82,6 +83,102 @@ fn halted_after_every_step_and_continued() {
             assert_eq!((rest.end, rest.next, state), (whole.end, whole.next, after));
             assert_eq!((first.steps + rest.steps, first.clocks + rest.clocks), (whole.steps, whole.clocks));
         }
+    }
+}
+
+/// The same steps, all with that line.
+fn with_line(listing: &Listing, line: u8) -> Listing {
+    let steps: Vec<Step> = listing.steps().iter().map(|step| step.with_line(line)).collect();
+    Listing::new(&steps).expect("as many steps")
+}
+
+/// An end without its line, and the place and the line that it has.
+fn parted(end: End) -> (End, Option<(usize, u8)>) {
+    match end {
+        End::Trapped { class, place, line } => (End::Trapped { class, place, line: 0 }, Some((place, line))),
+        End::Refused { refusal, place, line } => {
+            (End::Refused { refusal, place, line: 0 }, Some((place, line)))
+        }
+        End::Finished | End::Budget => (end, None),
+    }
+}
+
+/// Whatever the lines are, a run is the same but for the line that it tells: that of the step at the place.
+#[test]
+fn lines_change_nothing_but_what_is_told_of_them() {
+    let mut random = Random(4);
+    let mut told = 0;
+    for _ in 0..2_000 {
+        let listing = some_listing(&mut random);
+        let start = random.below(listing.steps().len() as u64 + 2) as usize;
+        let budget = random.pick(&[0, 3, u32::MAX]);
+        let before = random.state();
+        let mut plain = before;
+        let by_hand = run(&with_line(&listing, 0), &mut plain, start, budget);
+        for listing in [with_line(&listing, 1), with_line(&listing, 255), listing] {
+            let mut state = before;
+            let ran = run(&listing, &mut state, start, budget);
+            let (end, line) = parted(ran.end);
+            assert_eq!((Ran { end, ..ran }, state), (by_hand, plain));
+            if let Some((place, line)) = line {
+                assert_eq!(line, listing.steps().get(place).map_or(0, |step| step.line), "{listing:?}");
+                told += 1;
+            }
+        }
+    }
+    assert!(told > 2_000, "{told}");
+}
+
+/// Each step with its line.
+fn numbered(forms: &[(Size, Form)], lines: &[u8]) -> Listing {
+    let steps: Vec<Step> =
+        forms.iter().zip(lines).map(|(&(size, form), &line)| Step { size, form, line }).collect();
+    Listing::new(&steps).expect("a few steps")
+}
+
+#[test]
+fn a_trap_tells_its_line() {
+    let forms = [
+        (Size::Word, Form::Quick(QuickOp::Addq, 8, Register::Data(D(1)))),
+        (Size::Word, Form::Chk(D(0), D(1))),
+        (Size::Word, Form::One(OneOp::Clr, D(1))),
+    ];
+    let listing = numbered(&forms, &[7, 8, 9]);
+    let mut state = State { d: [10, 5, 0, 0, 0, 0, 0, 0], ..State::default() };
+    let before = state;
+    let ran = run(&listing, &mut state, 0, 100);
+    let end = End::Trapped { class: Trap::Over, place: 1, line: 8 };
+    assert_eq!(ran, Ran { end, next: 2, steps: 2, clocks: 12 });
+    assert_eq!(run(&listing, &mut before.clone(), 0, 1).end, End::Budget);
+    let words = run_words(listing.words(), &mut before.clone(), 0, 100);
+    assert_eq!(words, ran);
+}
+
+#[test]
+fn a_refusal_tells_its_line() {
+    let forms = [
+        (Size::Long, Form::Two(TwoOp::Add, D(0), D(1))),
+        (Size::Word, Form::Bit(BitOp::Bset, Count::Small(3), D(0))),
+    ];
+    for lines in [[7, 8], [0, 0], [255, 255]] {
+        let listing = numbered(&forms, &lines);
+        let mut state = State { d: [1, 0, 0, 0, 0, 0, 0, 0], ..State::default() };
+        let ran = run(&listing, &mut state, 0, 100);
+        let end = End::Refused { refusal: Refusal::NoSuchSize, place: 1, line: lines[1] };
+        assert_eq!(ran, Ran { end, next: 1, steps: 1, clocks: 8 });
+        assert_eq!(state, State { d: [1, 1, 0, 0, 0, 0, 0, 0], ..State::default() });
+        let past = run(&listing, &mut state, 3, 100);
+        let end = End::Refused { refusal: Refusal::StartPastEnd, place: 3, line: 0 };
+        assert_eq!(past, Ran { end, next: 3, steps: 0, clocks: 0 });
+    }
+}
+
+/// An ADD without a source, and the same with something in the reserved bytes.
+#[test]
+fn a_word_that_names_no_step_tells_its_line() {
+    for word in [0x0000_0700_0000_0000, 0xABCD_0700_0000_0000] {
+        let ran = run_words(&[word], &mut State::default(), 0, 9);
+        assert_eq!(ran.end, End::Refused { refusal: Refusal::NoSuchSize, place: 0, line: 7 });
     }
 }
 
@@ -114,7 +211,7 @@ fn a_step_is_its_operation() {
         let (size, (op, exec, long)) = (random.pick(&Size::ALL), random.pick(&TWOS));
         let answer = exec(size, before.d[0], before.d[1], before.flags).expect("it has every size");
         assert_eq!(answer.clocks, 4);
-        let step = Step { size, form: Form::Two(op, D(0), D(1)) };
+        let step = Step::new(size, Form::Two(op, D(0), D(1)));
         done(before, step, answer, if size == Size::Long { long } else { 4 });
     }
 }
@@ -130,7 +227,7 @@ fn bclr_counts_by_its_bit() {
         assert_eq!(answer.clocks, 10);
         let counts = [Some(Count::Data(D(0))), (number < 32).then_some(Count::Small(number as u8))];
         for count in counts.into_iter().flatten() {
-            let step = Step { size: Size::Long, form: Form::Bit(BitOp::Bclr, count, D(1)) };
+            let step = Step::new(Size::Long, Form::Bit(BitOp::Bclr, count, D(1)));
             done(before, step, answer, if number % 32 < 16 { 8 } else { 10 });
         }
     }
