@@ -7,7 +7,7 @@ use Prim.Native.Nat.{ℕ, suc, _+_, _-_, _<_, _≤_, _^_, min}
 use native.Mathlib.Omega.{arith}
 use native.Mathlib.Numerals.{add-one}
 use native.Mathlib.Nat.{add-zero}
-use lib.Dec.{ltb, leb}
+use lib.Dec.{T, ltb, leb}
 use lib.ListN.{length, take, getD, List·getD-eq-default}
 use lib.Seq.{take-all, take-length}
 use borrow.Author.Tests.{ltb-true, ltb-false, leb-true, leb-false}
@@ -23,6 +23,7 @@ use Rattle.step.specs.declared.steps.Outcome.the-variants.{Done, Trapped
 use Rattle.step.specs.declared.steps.Performed.{Performed}
 use Rattle.step.specs.declared.runs.End.{End}
 use Rattle.step.specs.declared.runs.End.the-variants as End
+use Rattle.step.specs.declared.runs.Left.{Left}
 use Rattle.step.specs.declared.runs.Ran.{Ran}
 use Rattle.step.specs.declared.runs.Course.{Course}
 use Rattle.step.specs.Perform.{performOf}
@@ -43,14 +44,14 @@ Sober f = (s : State) (k : Step) (x : Fault) → f s k .outcome ≡ Refused x �
 pub sober : Sober performOf
 sober s k x e = record { none = refused-free s k x e; before-end = λ p. never-past s k (e ∙ ap Refused p) }
 
--- the step before a place
-abbrev pub lastOf : List Step → (next : ℕ) → Step
-lastOf l next = getD l (next - 1) nowhere
+-- the line of the step before a place
+abbrev pub lastLine : List Step → (next : ℕ) → ℕ
+lastLine l next = getD l (next - 1) nowhere .line
 
 -- ---- the answer that a run comes to from where it stands
 abbrev pub answerOf : (State → Step → Performed) → List Step → (start stop : ℕ) → (d a : List ℕ) → Course → Ran
 answerOf f l start stop d a on =
-    cond (on .going) (after (on .next - start) (on .clocks) (runOf f l (held d a (on .flags)) (on .next) (stop - on .next))) (ranIn (leftOf (length l) start on (lastOf l (on .next))) d a)
+    cond (on .going) (after (on .next - start) (on .clocks) (runOf f l (held d a (on .flags)) (on .next) (stop - on .next))) (ranIn (leftOf (length l) start on (lastLine l (on .next))) d a)
 
 abbrev ranWith : State → End → (next steps clocks : ℕ) → Ran
 ranWith s e n k c = record { end = e; state = s; next = n; steps = k; clocks = c }
@@ -131,7 +132,7 @@ module _ (f : State → Step → Performed) (l : List Step) where
       ∙ rw zero-yet (after-none _ ∙ most-by (ltb (length l - start) budget) s start budget inside refl))
   begin-by false s start budget p =
       let past = leb-false start (length l) p in
-      let none : lastOf l start .line ≡ 0 = ap (λ (k : Step). k .line) (List·getD-eq-default l nowhere (omega arith)) in
+      let none : lastLine l start ≡ 0 = ap (λ (k : Step). k .line) (List·getD-eq-default l nowhere (omega arith)) in
       rw p (same-ran s (ap (End.Refused StartPastEnd start) none) refl (omega arith) refl ∙ sym (run-past f l s start budget (spot-past l start past)))
 
   -- it comes to the run's answer
@@ -144,13 +145,13 @@ pub record Runs (len start stop : ℕ) (on : Course) : Type 0 where
   pub from : start ≤ on .next
   pub to : on .next ≤ stop
   pub ready : on .going ≡ true → Ready stop on
-  pub halts : (last : Step) → Halts len start on last
+  pub halts : (line : ℕ) → Halts len start on line
 
 begin-runs-by : (t : Bool) (len start budget : ℕ) (f : Flags) → budget < 2 ^ 32 → leb start len ≡ t → let stop = stopOf len start budget in Runs len start stop (beginOf len start stop f)
 begin-runs-by true len start budget f h p =
     let stop = stopOf len start budget in
-    rw p (record { from = omega arith; to = omega arith; ready = λ g. record { inside = ltb-true start stop g; room = omega arith }; halts = λ last. record { from = omega arith; few = omega arith } })
-begin-runs-by false len start budget f h p = rw p (record { from = omega arith; to = omega arith; ready = no; halts = λ last. record { from = omega arith; few = omega arith } })
+    rw p (record { from = omega arith; to = omega arith; ready = λ g. record { inside = ltb-true start stop g; room = omega arith }; halts = λ line. record { from = omega arith; few = omega arith } })
+begin-runs-by false len start budget f h p = rw p (record { from = omega arith; to = omega arith; ready = no; halts = λ line. record { from = omega arith; few = omega arith } })
 
 pub begin-runs : (len start budget : ℕ) (f : Flags) → budget < 2 ^ 32 → let stop = stopOf len start budget in Runs len start stop (beginOf len start stop f)
 begin-runs len start budget f h = begin-runs-by (leb start len) len start budget f h refl
@@ -177,7 +178,7 @@ module _ (len start stop : ℕ) (on : Course) (few : stop < start + 2 ^ 32) (g :
         from = omega arith;
         to = omega arith;
         ready = λ e. record { inside = ltb-true (on .next + 1) stop (both-true (isDone (cameOut c)) _ e); room = omega (arith, r .room) };
-        halts = λ last. let near = halted-near (cameOut c) len (on .next) (last .line) in record { from = omega (arith, near .0); few = omega (arith, near .1) };
+        halts = λ line. let near = halted-near (cameOut c) len (on .next) line in record { from = omega (arith, near .0); few = omega (arith, near .1) };
       }
 
   pub turn-runs : (p : Performed) (d a : List ℕ) (r : Course) → p .clocks < 2 ^ 32 → Advanced stop on p d a r → Runs len start stop r
@@ -215,8 +216,24 @@ module _ (f : State → Step → Performed) (sober : Sober f) (l : List Step) (s
       ∙ turn-by (stop - on .next - 1) d a on (r .came) g (omega arith) (w .from) k (adv .outcome))
 
 -- a run that has ended says its answer
-pub stopped-answer : (f : State → Step → Performed) (l : List Step) (start stop : ℕ) (d a : List ℕ) (on : Course) → on .going ≡ false → ranIn (leftOf (length l) start on (lastOf l (on .next))) d a ≡ answerOf f l start stop d a on
+pub stopped-answer : (f : State → Step → Performed) (l : List Step) (start stop : ℕ) (d a : List ℕ) (on : Course) → on .going ≡ false → ranIn (leftOf (length l) start on (lastLine l (on .next))) d a ≡ answerOf f l start stop d a on
 stopped-answer f l start stop d a on g = rw g
+
+pub is-true : (t : Bool) → T t → t ≡ true
+is-true true h = refl
+is-true false h = absurd h
+
+-- where each step was done, no line is told
+pub any-line : (len start line : ℕ) (on : Course) (n : ℕ) → isDone (cameOut (on .came)) ≡ true → leftOf len start on line ≡ leftOf len start on n
+any-line len start line on n e = go (cameOut (on .came)) e
+  where
+    left : Outcome → (line : ℕ) → Left
+    left o line = let halt = haltedOf o len (on .next) line in record { end = halt .end; next = halt .next; steps = halt .next - start; clocks = on .clocks; flags = on .flags }
+
+    go : (o : Outcome) → isDone o ≡ true → left o line ≡ left o n
+    go Done h = refl
+    go (Trapped x) h = no h
+    go (Refused x) h = no h
 
 -- the variant of the loop: the places that are left, and one while the run goes on
 abbrev pub leftIn : (stop : ℕ) → Course → ℕ

@@ -119,10 +119,10 @@ outcomeFrom End.Budget = Done
 outcomeFrom (End.Trapped trap place line) = Trapped trap
 outcomeFrom (End.Refused fault place line) = Refused fault
 
--- what a run that has ended says, if `last` is the step before the place where it stands
-abbrev pub leftOf : (len start : ℕ) → Course → (last : Step) → Left
-leftOf len start on last =
-    let halt = haltedOf (cameOut (on .came)) len (on .next) (last .line) in
+-- what a run that has ended says, if its last step is of this text line
+abbrev pub leftOf : (len start : ℕ) → Course → (line : ℕ) → Left
+leftOf len start on line =
+    let halt = haltedOf (cameOut (on .came)) len (on .next) line in
     record { end = halt .end; next = halt .next; steps = halt .next - start; clocks = on .clocks; flags = on .flags }
 
 -- a step can be done: one stands before the run's last place, and the sum of the figures has room for those that do
@@ -131,6 +131,6 @@ pub record Ready (stop : ℕ) (on : Course) : Type 0 where
   pub room : on .clocks + (stop - on .next) * 2 ^ 32 < 2 ^ 64
 
 -- the steps that were taken can be counted in 32 bits
-pub record Halts (len start : ℕ) (on : Course) (last : Step) : Type 0 where
-  pub from : start ≤ leftOf len start on last .next
-  pub few : leftOf len start on last .next < start + 2 ^ 32
+pub record Halts (len start : ℕ) (on : Course) (line : ℕ) : Type 0 where
+  pub from : start ≤ leftOf len start on line .next
+  pub few : leftOf len start on line .next < start + 2 ^ 32

@@ -12,6 +12,7 @@ use super::runs::Left;
 use super::runs::Ran;
 use super::runs::SLOTS;
 use super::runs::advance;
+use super::runs::all_done;
 use super::runs::begin;
 use super::runs::left_off;
 use super::runs::nowhere;
@@ -40,7 +41,8 @@ pub fn perform_in(state: &mut State, step: Step) -> Told
     }
 }
 
-// A run on registers that are lent, and changed there: the one loop, which every other way of running calls.
+// A run on registers that are lent, and changed there: the one loop, which every other way of running calls. A trap's or a
+// refusal's line is read behind it.
 pub fn run_in(
     listing: &[Step],
     d: &mut [u32; 8],
@@ -57,8 +59,12 @@ pub fn run_in(
     while on.going {
         on = advance(d, a, stop, on, listing[on.next]);
     }
-    let last = fetch(listing, place_before(on.next), nowhere());
-    left_off(len, start, on, last)
+    let line = if all_done(on) {
+        0
+    } else {
+        fetch(listing, place_before(on.next), nowhere()).line
+    };
+    left_off(len, start, on, line)
 }
 
 // A run of a listing that is lent, of any length.

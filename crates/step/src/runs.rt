@@ -6,7 +6,7 @@ ghost use Rattle.step.specs.Perform.{performOf};
 ghost use Rattle.step.specs.declared.runs.End.the-variants as End;
 ghost use Rattle.step.specs.Run.{ends, runOf, resumedOf};
 ghost use Rattle.step.specs.Lent.{held, ranIn};
-ghost use Rattle.step.specs.Course.{courseOf, stopOf, beginOf, Advanced, endAt, stoodAt, nowhere, haltedOf, leftOf, Ready, Halts};
+ghost use Rattle.step.specs.Course.{cameOut, isDone, courseOf, stopOf, beginOf, Advanced, endAt, stoodAt, nowhere, haltedOf, leftOf, Ready, Halts};
 use super::forms::Form;
 use super::forms::Step;
 use super::lent::run_first;
@@ -146,6 +146,14 @@ pub(crate) fn advance(
     }
 }
 
+// Whether each step so far was done: the last is all that can be otherwise.
+pub(crate) fn all_done(on: Course) -> bool
+    ensures { λ r. ⌜ r ≡ isDone (cameOut (on .came)) ⌝ }
+{
+    let came = on.came;
+    is_done(came)
+}
+
 // How a run ends, and where it would go on.
 struct Halted {
     end: End,
@@ -203,14 +211,13 @@ fn halted_after(outcome: Outcome, len: usize, next: usize, line: u8) -> Halted
     }
 }
 
-// What a run from `start` that has ended says; `last` is the step before the place where it stands.
-pub(crate) fn left_off(len: usize, start: usize, on: Course, last: Step) -> Left
-    requires { ⌜ Halts len start on last ⌝ }
-    ensures { λ r. ⌜ r ≡ leftOf len start on last ⌝ }
+// What a run from `start` that has ended says, if its last step is of this text line.
+pub(crate) fn left_off(len: usize, start: usize, on: Course, line: u8) -> Left
+    requires { ⌜ Halts len start on line ⌝ }
+    ensures { λ r. ⌜ r ≡ leftOf len start on line ⌝ }
 {
     let came = on.came;
     let flags = on.flags;
-    let line = last.line;
     let halt = halted_after(outcome_of(came), len, on.next, line);
     let end = halt.end;
     let taken = halt.next - start;
