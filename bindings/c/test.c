@@ -328,6 +328,7 @@ static void test_lines_of_a_rack(void) {
     unsigned i;
     for (i = 0; i < BOXES; i++) d[REGISTERS * i] = 10, d[REGISTERS * i + 1] = 5;
     rack_run(words, 4, d, BOXES * REGISTERS, a, BOXES * REGISTERS, flags, BOXES, starts, BOXES, 2, answers, BOXES * GRO_TOLD, told);
+    check(told[0] == 0 && told[1] == BOXES, "a rack with lines", BOXES);
     check(alike(answers, should, BOXES * GRO_TOLD, sizeof *answers), "what is told of each box", BOXES);
 }
 

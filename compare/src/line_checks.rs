@@ -72,7 +72,7 @@ impl Case {
 }
 
 /// The line that the end has by its place: that of the step there, if a step was trapped or refused.
-fn line_at(listing: &[Step], [end, _, place, ..]: Told) -> u64 {
+pub fn line_at(listing: &[Step], [end, _, place, ..]: Told) -> u64 {
     listing.get(place as usize).filter(|_| end >= 2).map_or(0, |step| step.line.into())
 }
 

@@ -4,6 +4,7 @@
 use crate::c_functions::rack_run;
 use crate::cases::Random;
 use crate::check::Tally;
+use crate::line_checks::line_at;
 use crate::ported;
 use crate::rack_examples::{Example, Set, examples};
 use crate::racks::{Rack, Row, Words};
@@ -111,8 +112,8 @@ fn step_of([operation, size, kind, from, to]: [u8; 5], random: &mut Random) -> S
 
 /// What an example tells of a box, and the line of the step at the place of its trap or refusal.
 fn with_line([end, which, place, next, steps, clocks]: [u64; 6], listing: &[Step]) -> Told {
-    let step = listing.get(place as usize).filter(|_| end >= 2);
-    [end, which, place, next, steps, clocks, step.map_or(0, |step| step.line.into()), 0]
+    let line = line_at(listing, [end, which, place, next, steps, clocks, 0, 0]);
+    [end, which, place, next, steps, clocks, line, 0]
 }
 
 fn rack_of(example: &Example, random: &mut Random) -> Rack {

@@ -3,7 +3,6 @@ use crate::pen::BLANK;
 use crate::pen::Pen;
 use crate::pen::at_start;
 use crate::pen::line_start;
-use crate::pen::place_of;
 use crate::pen::put;
 use crate::pen::put_byte;
 use crate::pen::put_count;
@@ -11,6 +10,7 @@ use crate::pen::put_decimal;
 use crate::pen::put_fields;
 use crate::pen::put_hex;
 use crate::pen::put_line;
+use crate::pen::put_text_line;
 use alu::types::Flags;
 use step::registers::State;
 use step::runs::End;
@@ -120,8 +120,7 @@ fn put_told(pen: Pen, text: &[u8], line: u8) -> Pen {
     }
     let next = put(pen, b", line ");
     let next = put_decimal(next, line as u64);
-    let next = put_byte(next, BLANK);
-    put_fields(next, text, line_start(text, place_of(line as usize)))
+    put_text_line(next, text, line)
 }
 
 fn put_counts(pen: Pen, steps: u32, clocks: u64) -> Pen {

@@ -157,6 +157,12 @@ pub(crate) fn line_start(text: &[u8], k: usize) -> usize
     at
 }
 
+// A blank and what stands in a text line, counted from 1.
+pub(crate) fn put_text_line(pen: Pen, text: &[u8], line: u8) -> Pen {
+    let next = put_byte(pen, BLANK);
+    put_fields(next, text, line_start(text, place_of(line as usize)))
+}
+
 // Where the field begins that stands behind the next tab; the text's end where there is none.
 pub(crate) fn next_field(text: &[u8], from: usize) -> usize {
     let mut at = from;

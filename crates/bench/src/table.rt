@@ -16,19 +16,17 @@ use crate::numbers::put_value;
 use crate::pen::BLANK;
 use crate::pen::Pen;
 use crate::pen::at_start;
-use crate::pen::line_start;
 use crate::pen::next_field;
-use crate::pen::place_of;
 use crate::pen::put;
 use crate::pen::put_byte;
 use crate::pen::put_count;
 use crate::pen::put_decimal;
 use crate::pen::put_field;
-use crate::pen::put_fields;
 use crate::pen::put_flags;
 use crate::pen::put_hex;
 use crate::pen::put_line;
 use crate::pen::put_right;
+use crate::pen::put_text_line;
 use crate::pen::tab;
 use crate::words::Asked;
 use alu::types::Flags;
@@ -175,8 +173,7 @@ fn put_step(pen: Pen, place: usize, step: Step) -> Pen {
 // A text line: its number, from 1, and what stands there.
 fn put_text(pen: Pen, text: &[u8], line: u8) -> Pen {
     let next = put_right(pen, LINE + 2, line as u64);
-    let next = put_byte(next, BLANK);
-    put_fields(next, text, line_start(text, place_of(line as usize)))
+    put_text_line(next, text, line)
 }
 
 // The first register that differs, with its new value.

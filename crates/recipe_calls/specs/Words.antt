@@ -75,10 +75,11 @@ abbrev pub named : (size : ℕ) → Made → Step
 named size (Is form) = sizedOf size form
 named size NoForm = noStep
 
+-- the step that a word names, without its line
 unfoldable pub bareOf : (word : ℕ) → Step
 bareOf word = named (byteOf 1 word) (formOf (operationAt (byteOf 0 word)) (byteOf 2 word) (byteOf 3 word) (byteOf 4 word))
 
--- with its line. A word that names no step has its line too, so that the refusal tells it
+-- and with it, byte 5. A word that names no step has its line too, so that the refusal tells it
 abbrev pub stepOf : (word : ℕ) → Step
 stepOf word = withLine (byteOf 5 word) (bareOf word)
 

@@ -2,7 +2,7 @@
 -- one that the printer shows. Assumes nothing.
 --     listing-legal   every step of the listing is one that the step machine's promises speak of
 --     figure-same     a legal step has the printed figure in every state
---     numbered-bare   with its text lines or without, it is one listing
+--     numbered-bare   with its text lines or without, it is one listing; clocks-bare: and has one sum of figures
 use mathlib.Core.Path.{_≡_, refl, sym, _∙_, ap, ap₂}
 use mathlib.Core.Bool.{Bool, true, false, cond}
 use mathlib.Core.List.{List, [], _∷_, _++_, map, map-append}
@@ -18,7 +18,7 @@ use Rattle.recipes.specs.declared.types.Verb.{Verb}
 use Rattle.recipes.specs.declared.types.Verb.the-variants.{Clear, Copy, Add, Sub, Neg, Not, Halve, Down, Up}
 use Rattle.recipes.specs.declared.types.Line.{Line}
 use Rattle.recipes.specs.Recipe.{isCopy, target, Names, Accepted}
-use Rattle.recipes.specs.Listing.{clrStep, firstStep, otherStep, withClr, highestFirst, risingRest, fallingRest, rising, falling, lineSteps, listingOf, numberedOf, atRest, figureOf}
+use Rattle.recipes.specs.Listing.{clrStep, firstStep, otherStep, withClr, highestFirst, risingRest, fallingRest, rising, falling, lineSteps, listingOf, numberedOf, atRest, figureOf, clocksOf}
 use Rattle.recipes.proofs.Places.{number-fits}
 
 -- ---- what holds of a verb's steps, and of a CLR, on registers of the eight holds of every step of an accepted recipe's listing
@@ -118,6 +118,12 @@ line-none = line-all NoLine (λ q b. refl) (λ v p q a b. refl) (λ v p q a b. r
 bare-again : (n : ℕ) (ks : List Step) → All NoLine ks → map bare (map (withLine n) ks) ≡ ks
 bare-again n [] h = refl
 bare-again n (k ∷ ks) h = ap₂ {C = List Step} (λ (k : Step) (ks : List Step). k ∷ ks) (ap (λ (m : ℕ). withLine m k) (sym (h .0))) (bare-again n ks (h .1))
+
+-- the sum of the figures doesn't look at lines: that of the listing is the one that is printed
+pub clocks-bare : (l : List Step) → clocksOf (map bare l) ≡ clocksOf l
+unfolding clocksOf figureOf
+clocks-bare [] = refl
+clocks-bare (k ∷ ks) = ap (λ (n : ℕ). performOf atRest k .clocks + n) (clocks-bare ks)
 
 pub numbered-bare : (w n : ℕ) (ls : List Line) → Accepted w ls → map bare (numberedOf w n ls) ≡ listingOf w ls
 unfolding numberedOf listingOf

@@ -49,7 +49,8 @@ pub record Ruled (w : ℕ) (r : Account) (s t : State) : Type 0 where
   pub addresses : t .a ≡ s .a
   pub longs : EightLongs (t .d)
 
--- a run from the first place has done the lines' steps, and nothing else: the state is by the rule, the next place is behind them
+-- a run from the first place has done the lines' steps, and nothing else: the state is by the rule, the next place is behind them. The clocks are those
+-- that are printed, with lines or without (`clocks-bare` of proofs/Legal)
 pub record Meets (w : ℕ) (ls : List Line) (s : State) (r : Ran) : Type 0 where
   pub rule : Ruled w (rulesOf w ls (accountOf w s)) s (r .state)
   pub next : r .next ≡ stepsOf w ls
@@ -66,8 +67,8 @@ pub record Finishes (w : ℕ) (ls : List Line) (l : List Step) (s : State) (b : 
   pub meets : Meets w ls s (runInParts performOf l s 0 b bs)
 
 -- Widths 1, 2 and 4 are instances. Each budget of the code has 32 bits; this speaks of every such budget, and of any greater. An accepted recipe has at
--- most `stepsMax` steps (`steps-few` of proofs/Demand), so that a single budget of as many is enough for every one. The steps may carry any lines
--- (document 02, item 4): l is the recipe's listing but for them.
+-- most `stepsMax` steps (`steps-few` of proofs/Demand), so that a single budget of as many is enough for every one. l is the recipe's listing
+-- with any lines (document 02, item 4): each step of `listingOf` has line 0, and `bare` takes l's lines off.
 abbrev pub Demand3 : Type 0
 Demand3 =
     (w : ℕ) → 0 < w → (ls : List Line) → Accepted w ls → (l : List Step) → map bare l ≡ listingOf w ls → (s : State) → EightLongs (s .d)
@@ -80,8 +81,8 @@ abbrev pub HaltedBehind : Type 0
 HaltedBehind =
     (w : ℕ) → 0 < w → (ls : List Line) → Accepted w ls → (l more : List Step) → map bare l ≡ listingOf w ls → (s : State) → EightLongs (s .d)
     → (b : ℕ) (bs : List ℕ) → total b bs ≡ stepsOf w ls
-    → let k = l ++ more in
-    let r = runInParts performOf k s 0 b bs in PartsGo performOf k s 0 b bs × ((goesOn (r .end) ≡ true) × Meets w ls s r)
+    → let all = l ++ more in
+    let r = runInParts performOf all s 0 b bs in PartsGo performOf all s 0 b bs × ((goesOn (r .end) ≡ true) × Meets w ls s r)
 
 -- Called one by one: what `translate` or `translate_array` made of a recipe that it accepted, run by `run` or `run_array` in its first `count` slots. (`run`
 -- takes all slots that it is lent. Who lends it the slots past the listing too has `HaltedBehind`, for budgets that end with the listing.)
@@ -105,7 +106,8 @@ pub record ComesFrom (w : ℕ) (ls : List Line) (p : ℕ) (k : Step) : Type 0 wh
   pub within : index < stepsAt (getD ls line unused .verb) * w
   pub step : k ≡ withLine (line + 2) (getD (lineSteps w (getD ls line unused)) index blank)
 
--- so does each step of a recipe that was translated. What a trap or a refusal tells is the line of the step at its place: `line-told` of step/proofs/Lines
+-- Each step of a recipe that was translated comes from a line in this way. What a trap or a refusal tells is the line of the step at its place:
+-- `line-told` of step/proofs/Lines
 abbrev pub EachStep : Type 0
 EachStep =
     (r : Recipe) (slots : List Step) → let t = translateOf r slots in

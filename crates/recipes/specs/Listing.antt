@@ -1,4 +1,4 @@
--- The listing that a recipe is translated to: document 01, "Recipes" and "Refusal numbers". Assumes nothing.
+-- The listing that a recipe is translated to: document 01, "Recipes" and "Refusal numbers", with document 02, item 4. Assumes nothing.
 use Prim.Native.Nat.{ℕ, zero, suc, _+_, _*_, _/_}
 use mathlib.Core.Bool.{Bool, false, cond}
 use mathlib.Core.List.{List, [], _∷_, _++_, map}

@@ -1,5 +1,5 @@
--- Text lines: document 02, item 4. A step carries the line of the recipe that it comes from, and a trap or a refusal tells the line of its step; nothing else
--- looks at it. What the laws of lines speak of (proofs/Lines), and demand 3 with them. Assumes nothing.
+-- Text lines: document 02, item 4. A step carries the line of the recipe that it comes from, and a trap or a refusal tells the line of its step; no other
+-- answer of a run depends on it. What the laws of lines speak of (proofs/Lines), and demand 3 with them. Assumes nothing.
 use Prim.Native.Nat.{ℕ}
 use mathlib.Core.Path.{_≡_}
 use mathlib.Core.List.{List, map}

@@ -1,4 +1,4 @@
--- A run of a listing: document 01, "Steps and runs". It is defined by recursion on the budget, from a place, over any step function f. The tests
+-- A run of a listing: document 01, "Steps and runs", with document 02, item 4. It is defined by recursion on the budget, from a place, over any step function f. The tests
 -- stand in document 01's order: past the end; at the end; the budget spent; then the step. Assumes nothing.
 use Prim.Native.Nat.{ℕ, zero, suc, _+_, _%_, _^_}
 use mathlib.Core.List.{List, [], _∷_}
@@ -50,7 +50,7 @@ followed Done o p n on = counted (o .clocks) (on (o .state) (suc p))
 followed (Trapped trap) o p n on = counted (o .clocks) (ends (End.Trapped trap p n) (o .state) (suc p))
 followed (Refused fault) o p n on = ends (End.Refused fault p n) (o .state) p
 
--- the tests of a place, past the end there is no line; `on` is what a spent budget or the step makes of it
+-- the tests of a place; `on` is what a spent budget or the step makes of it. Past the end there is no line: 0
 abbrev pub met : Spot → State → (p : ℕ) → (on : Step → Ran) → Ran
 met pastEnd s p on = ends (End.Refused StartPastEnd p 0) s p
 met atEnd s p on = ends End.Finished s p

@@ -61,7 +61,8 @@ pub enum Form {
     Chk(D, D),
 }
 
-// `line` is the text line that a step comes from, 0 if it was made by hand. No test looks at it: a trap or a refusal tells it.
+// `line` is the text line that a step comes from, 0 if it was given none. No test looks at it: it is printed, and a trap or a
+// refusal tells it.
 pub struct Step {
     pub size: Size,
     pub form: Form,

@@ -146,7 +146,7 @@ pub(crate) fn advance(
     }
 }
 
-// Whether each step so far was done: the last is all that can be otherwise.
+// Whether each step so far was done. Only the last can have come out otherwise.
 pub(crate) fn all_done(on: Course) -> bool
     ensures { λ r. ⌜ r ≡ isDone (cameOut (on .came)) ⌝ }
 {
