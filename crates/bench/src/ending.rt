@@ -103,17 +103,7 @@ fn put_place(pen: Pen, place: usize) -> Pen {
     put_decimal(next, place as u64)
 }
 
-// The text line of the step that was trapped or refused; 0 where there is none.
-fn told_line(end: End) -> u8 {
-    match end {
-        End::Finished => 0,
-        End::Budget => 0,
-        End::Trapped(_, _, line) => line,
-        End::Refused(_, _, line) => line,
-    }
-}
-
-// That line with what stands there.
+// The text line that an end tells, with what stands there; 0 is none.
 fn put_told(pen: Pen, text: &[u8], line: u8) -> Pen {
     if line == 0 {
         return pen;
@@ -136,7 +126,7 @@ fn end_line(text: &[u8], ran: Ran) -> Pen {
         end,
     );
     let next = put_place(next, end_place(ran));
-    let next = put_told(next, text, told_line(end));
+    let next = put_told(next, text, step::runs::end_line(end));
     put_counts(next, ran.steps, ran.clocks)
 }
 

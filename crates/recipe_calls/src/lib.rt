@@ -11,7 +11,7 @@ ghost use mathlib.Core.Path.{_≡_};
 ghost use Prim.Native.Nat.{_+_, _*_, _<_, _≤_};
 ghost use lib.ListN.{length, take};
 ghost use Rattle.step.specs.Perform.{performOf};
-ghost use Rattle.step.specs.Run.{runOf, endNumbers, endLine};
+ghost use Rattle.step.specs.Run.{runOf, endNumbers};
 ghost use Rattle.text.specs.Wrote.{written, writing};
 ghost use Rattle.recipes.specs.Printer.{listingText, answerOf};
 ghost use Rattle.recipe_calls.specs.Words.{firstOf};
@@ -41,6 +41,7 @@ use step::registers::State;
 use step::runs::End;
 use step::runs::Ran;
 use step::runs::SLOTS;
+use step::runs::end_line;
 use step::runs::lesser;
 use step::runs::run_array;
 use step::steps::class;
@@ -91,18 +92,6 @@ fn end_numbers(end: End) -> [u64; 3]
         End::Budget => [1, 0, 0],
         End::Trapped(trap, place, _) => [2, class(trap) as u64, place as u64],
         End::Refused(fault, place, _) => [3, step::steps::number(fault) as u64, place as u64],
-    }
-}
-
-// The text line of the step that was trapped or refused.
-fn end_line(end: End) -> u8
-    ensures { λ r. ⌜ r ≡ endLine end ⌝ }
-{
-    match end {
-        End::Finished => 0,
-        End::Budget => 0,
-        End::Trapped(_, _, line) => line,
-        End::Refused(_, _, line) => line,
     }
 }
 

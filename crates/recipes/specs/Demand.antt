@@ -96,8 +96,8 @@ CalledOneByOne =
 abbrev pub FromText : Type 0
 FromText = (text : List ℕ) (slots : List Step) → isNothing (readOf text .refused) ≡ true → stepsMax ≤ length slots → isNothing (translateOf (readOf text .recipe) slots .refused) ≡ true
 
--- Document 02, item 4, "which line of the recipe did that step come from?" The step k at place p is step `index` of the recipe's line `line`, from 0, and
--- carries that line's text line, which is `line` + 2
+-- Document 02, item 4, "A stopped run gives a place; the technician wants the recipe line." The step k at place p is step `index` of the recipe's line
+-- `line`, from 0, and carries that line's text line, which is `line` + 2
 pub record ComesFrom (w : ℕ) (ls : List Line) (p : ℕ) (k : Step) : Type 0 where
   pub line : ℕ
   pub index : ℕ

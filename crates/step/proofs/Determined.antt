@@ -42,6 +42,7 @@ use Rattle.step.proofs.runs.run_array.Reads as run-array
 use Rattle.step.proofs.runs.begun.Reads as begun
 use Rattle.step.proofs.runs.resumed.Reads as resumed
 use Rattle.step.proofs.runs.lesser.Reads as lesser
+use Rattle.step.proofs.runs.end_line.Reads as end-line
 use Rattle.step.proofs.racks.number.Reads as fit-number
 use Rattle.step.proofs.racks.plan.Reads as plan
 use Rattle.step.proofs.racks.rack as rack
@@ -64,6 +65,7 @@ determined =
     fixed begun.Learnt (one-equation _) ∷
     fixed resumed.Learnt (one-equation _) ∷
     fixed lesser.Learnt (one-equation _) ∷
+    fixed end-line.Learnt (one-equation _) ∷
     fixed fit-number.Learnt (one-equation _) ∷
     fixed plan.Learnt (one-equation _) ∷ []
 

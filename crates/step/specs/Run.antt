@@ -1,5 +1,5 @@
--- A run of a listing: document 01, "Steps and runs", with document 02, item 4. It is defined by recursion on the budget, from a place, over any step function f. The tests
--- stand in document 01's order: past the end; at the end; the budget spent; then the step. Assumes nothing.
+-- A run of a listing: document 01, "Steps and runs", with document 02, item 4. It is defined by recursion on the budget, from a place, over any step
+-- function f. The tests stand in document 01's order: past the end; at the end; the budget spent; then the step. Assumes nothing.
 use Prim.Native.Nat.{ℕ, zero, suc, _+_, _%_, _^_}
 use mathlib.Core.List.{List, [], _∷_}
 use Rattle.step.specs.declared.registers.State.{State}

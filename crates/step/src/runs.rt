@@ -4,7 +4,7 @@ ghost use Prim.Native.Nat.{_-_, min};
 ghost use lib.ListN.{take};
 ghost use Rattle.step.specs.Perform.{performOf};
 ghost use Rattle.step.specs.declared.runs.End.the-variants as End;
-ghost use Rattle.step.specs.Run.{ends, runOf, resumedOf};
+ghost use Rattle.step.specs.Run.{ends, endLine, runOf, resumedOf};
 ghost use Rattle.step.specs.Lent.{held, ranIn};
 ghost use Rattle.step.specs.Course.{cameOut, isDone, courseOf, stopOf, beginOf, Advanced, endAt, stoodAt, nowhere, haltedOf, leftOf, Ready, Halts};
 use super::forms::Form;
@@ -31,6 +31,18 @@ pub enum End {
     Budget,
     Trapped(Trap, usize, u8),
     Refused(Fault, usize, u8),
+}
+
+// The text line of the step that was trapped or refused; 0 where there is none.
+pub fn end_line(end: End) -> u8
+    ensures { λ r. ⌜ r ≡ endLine end ⌝ }
+{
+    match end {
+        End::Finished => 0,
+        End::Budget => 0,
+        End::Trapped(_, _, line) => line,
+        End::Refused(_, _, line) => line,
+    }
 }
 
 // What a run hands back. `next` is the place to go on from; `clocks` is the sum of the steps' figures.
