@@ -15,9 +15,7 @@ use borrow.Author.Tests.{lt-ltb, le-ltb}
 use lib.IntN.{pos, ◌-ℤ◌}
 use lib.Signed.{lt_z}
 use Rattle.alu.specs.Bits.{low, top, raised, signed, fits, digit}
-use Rattle.alu.specs.ConditionCodes.{add_flags, sub_flags}
-use Rattle.alu.specs.declared.conditions.Condition.TheVariants.{Lt}
-use Rattle.alu.specs.Conditions.{condition_holds}
+use Rattle.alu.specs.ConditionCodes.{is_lt, add_flags, sub_flags}
 use Rattle.alu.specs.Arith.{sum, difference, true_sum, true_difference}
 use Rattle.alu.proofs.Signed.{Reads, reads, pow_half}
 use Rattle.alu.proofs.Minus.{minus, minus_add, minus_zero, zero_minus, minus_back, minus_same, ltb_same, minus_less, no_fit}
@@ -99,5 +97,5 @@ module _ (n : ℕ) (positive : 0 < n) (s d : ℕ) (x : Bool) where
 -- LT after d - s
 pub sub_less :
     (n : ℕ) → 0 < n → (s d : ℕ) →
-    condition_holds Lt (sub_flags n s d (difference n s d false)) ≡ lt_z (signed n d) (signed n s)
+    is_lt (sub_flags n s d (difference n s d false)).n (sub_flags n s d (difference n s d false)).v ≡ lt_z (signed n d) (signed n s)
 sub_less n positive s d = sub_less_raised n positive s d ∙ sym (signed_less n positive d s)

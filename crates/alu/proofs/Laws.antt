@@ -16,9 +16,7 @@ use lib.Dec.{leb, ltb}
 use lib.Pow.{pow_pos}
 use borrow.Author.Tests.{lt-ltb, le-ltb, le-leb, lt-leb, leb-true, leb-false, ltb-true, ltb-false}
 use Rattle.alu.specs.Bits.{low, top, raised, digit}
-use Rattle.alu.specs.ConditionCodes.{add_v, add_c, add_flags, sub_flags, neg_flags}
-use Rattle.alu.specs.declared.conditions.Condition.TheVariants.{Lt}
-use Rattle.alu.specs.Conditions.{formula, condition_holds}
+use Rattle.alu.specs.ConditionCodes.{add_v, add_c, is_lt, add_flags, sub_flags, neg_flags}
 use Rattle.alu.specs.Arith.{sum, difference}
 use Rattle.alu.proofs.Bounds.{digit_le, low_lt}
 use Rattle.alu.proofs.Formulas.{swap_v, swap_c, neg_v_is, neg_c_is}
@@ -35,8 +33,8 @@ record Adder (h : ℕ) (A B T : Bool) (a' b' t' x : ℕ) (k : Bool) : Type 0 whe
   over : digit (add_v A B T) ≡ 1 → h ≤ a' + b' + x → a' + b' + x < 3 * h → ⊥
   back_clear : digit (add_v A B T) ≡ 0 → (a' + x ≤ t' + h) × (t' < a' + x + h)
   back_over : digit (add_v A B T) ≡ 1 → a' + x ≤ t' + h → t' < a' + x + h → ⊥
-  less : x ≡ 0 → digit (formula Lt B false (add_v A B T) false) ≡ 1 → t' < a'
-  not_less : x ≡ 0 → digit (formula Lt B false (add_v A B T) false) ≡ 0 → a' ≤ t'
+  less : x ≡ 0 → digit (is_lt B (add_v A B T)) ≡ 1 → t' < a'
+  not_less : x ≡ 0 → digit (is_lt B (add_v A B T)) ≡ 0 → a' ≤ t'
 
 adder :
     (A B T k : Bool) {h a b t a' b' t' x : ℕ} → Reads h A a a' → Reads h B b b' → Reads h T t t' → x ≤ 1 → a + b + x ≡ t + digit k * (2 * h) →
@@ -192,7 +190,7 @@ module _ (n : ℕ) (positive : 0 < n) (s d : ℕ) (x : Bool) where
 -- after d - s the Manual's LT says that d is below s, both read as signed numbers
 pub sub_less_raised :
     (n : ℕ) → 0 < n → (s d : ℕ) →
-    condition_holds Lt (sub_flags n s d (difference n s d false)) ≡ ltb (raised n d) (raised n s)
+    is_lt (sub_flags n s d (difference n s d false)).n (sub_flags n s d (difference n s d false)).v ≡ ltb (raised n d) (raised n s)
 unfolding sub_flags
 sub_less_raised n positive s d =
     let a = difference_adder n positive s d false in rw (← swap_v) (is_below _ _ _ (a.less refl) (a.not_less refl))

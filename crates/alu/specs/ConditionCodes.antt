@@ -63,3 +63,7 @@ flags_of ccr = record { x = bit 4 ccr; n = bit 3 ccr; z = bit 2 ccr; v = bit 1 c
 
 abbrev pub ccr_of : Flags → ℕ
 ccr_of f = digit f.x * 16 + digit f.n * 8 + digit f.z * 4 + digit f.v * 2 + digit f.c
+
+-- the condition LT of the Manual's conditional tests, of the flags N and V: a term of the laws alone
+abbrev pub is_lt : (n v : Bool) → Bool
+is_lt n v = n && not v || not n && v

@@ -30,7 +30,6 @@ use Rattle.step.specs.Rack.{Rack, left, rack_of}
 use Rattle.step.proofs.forms.operation_of.Reads as operation-of
 use Rattle.step.proofs.forms.operation_at.Reads as operation-at
 use Rattle.step.proofs.forms.number.Reads as operation-number
-use Rattle.step.proofs.forms.is_stop.Reads as is_stop
 use Rattle.step.proofs.forms.with_line.Reads as with-line
 use Rattle.step.proofs.steps.number.Reads as number
 use Rattle.step.proofs.steps.class.Reads as class
@@ -54,7 +53,6 @@ determined =
     fixed operation-of.Learnt (one_equation _) ∷
     fixed operation-at.Learnt (one_equation _) ∷
     fixed operation-number.Learnt (one_equation _) ∷
-    fixed is_stop.Learnt (one_equation _) ∷
     fixed with-line.Learnt (one_equation _) ∷
     fixed number.Learnt (one_equation _) ∷
     fixed class.Learnt (one_equation _) ∷

@@ -9,7 +9,6 @@ use Rattle.alu.specs.declared.bit_manip.BitOp.{BitOp}
 use Rattle.alu.specs.declared.bit_manip.BitOp.TheVariants.{Btst, Bset, Bclr, Bchg}
 use Rattle.alu.specs.Answers.{figure}
 use Rattle.alu.specs.Bitops.{bitop_of}
-use Rattle.alu.specs.Conditions.{condition_holds}
 use Rattle.alu.proofs.Figures.{size_small, unless_small, shift_small, bit_small, chk_small}
 use Rattle.step.specs.declared.registers.State.{State}
 use Rattle.step.specs.declared.forms.TwoOp.{TwoOp}
@@ -22,12 +21,12 @@ use Rattle.step.specs.declared.forms.OneOp.{OneOp}
 use Rattle.step.specs.declared.forms.OneOp.TheVariants.{Clr, Neg, Negx, Not, Ext}
 use Rattle.step.specs.declared.forms.Register.TheVariants as Register
 use Rattle.step.specs.declared.forms.Form.{Form}
-use Rattle.step.specs.declared.forms.Form.TheVariants.{Two, Address, Quick, One, Shift, Bit, Chk, Stop}
+use Rattle.step.specs.declared.forms.Form.TheVariants.{Two, Address, Quick, One, Shift, Bit, Chk}
 use Rattle.step.specs.declared.forms.Step.{Step}
 use Rattle.step.specs.declared.steps.Performed.{Performed}
 use Rattle.step.specs.Registers.{data_of}
 use Rattle.step.specs.Perform.{Ruling, Sound, Faulty, there, count_there, count_within, is_long, two_of, on_address_of, quick_of, quick_address_of, one_of, ruling_of, count_value}
-use Rattle.step.specs.Perform.{stop_of, operated_of, figure_of_two, figure_of_bit, act_of, judged, perform_form, perform_of}
+use Rattle.step.specs.Perform.{operated_of, figure_of_two, figure_of_bit, act_of, judged, perform_form, perform_of}
 use Rattle.step.proofs.Laws.{no}
 use Rattle.step.proofs.Sound.{passed}
 
@@ -49,7 +48,6 @@ above size (One op t) = 0
 above size (Shift op c t) = 0
 above size (Bit op c t) = 0
 above size (Chk r t) = 0
-above size (Stop c) = 0
 
 -- and what it lacks: of BCLR below bit 16 it is 2
 abbrev pub lacking : BitOp → (number : ℕ) → ℕ
@@ -66,7 +64,6 @@ below s (One op t) = 0
 below s (Shift op c t) = 0
 below s (Bit op c t) = lacking op (count_value s 32 c)
 below s (Chk r t) = 0
-below s (Stop c) = 0
 
 by_size : (size : Size) (k m : ℕ) → figure size k (k + m) + 0 ≡ k + figure size 0 m
 by_size Byte k m = omega arith
@@ -104,7 +101,6 @@ act_differs s size (Shift op c t) e = refl
 act_differs s size (Bit op c t) e =
     bit_differs op size (count_value s 32 c) (data_of s t) s.flags (passed (count_there c && there t.0) (is_long size) (count_within 0 31 c) e).0
 act_differs s size (Chk r t) e = refl
-act_differs s size (Stop c) e = refl
 
 -- the two figures of a step that is not refused
 pub figure_differs : (s : State) (size : Size) (form : Form) → ruling_of size form ≡ Sound
@@ -150,10 +146,6 @@ numbered_small Bset number k h = h
 numbered_small Bclr number k h = edge_small (ltb number 16) h
 numbered_small Bchg number k h = h
 
-stop_small : (s : State) (taken : Bool) → (stop_of s taken).clocks < 2 ^ 8
-stop_small s true = lit< tt
-stop_small s false = lit< tt
-
 act_small : (s : State) (size : Size) (form : Form) → (act_of s size form).clocks < 2 ^ 8
 act_small s size (Two op r t) = two_small op size _ _ s.flags
 act_small s size (Address op r t) = address_small op size _ _ s.flags
@@ -163,7 +155,6 @@ act_small s size (One op t) = one_small op size _ s.flags
 act_small s size (Shift op c t) = shift_small op size _ _ s.flags
 act_small s size (Bit op c t) = numbered_small op (count_value s 32 c) _ (bit_small op size _ _ s.flags)
 act_small s size (Chk r t) = chk_small size _ _ s.flags
-act_small s size (Stop c) = stop_small s (condition_holds c s.flags)
 
 judged_small : (x : Ruling) (s : State) (done : Performed) → done.clocks < 2 ^ 8 → (judged x s done).clocks < 2 ^ 8
 judged_small Sound s done h = h

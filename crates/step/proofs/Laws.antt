@@ -1,19 +1,19 @@
 -- Laws of a run, over any step function f and any listing l. What a run makes of each place: `run_past`, `run_end`, `run_none`, `run_step`. The
--- steps done are the next place less the start place, or a stop was taken: `run_next`; where no step stops: `run_straight`; no more than the budget: `run_few`. A run of j and then of k steps is one of
+-- steps done are the next place less the start place: `run_next`; no more than the budget: `run_few`. A run of j and then of k steps is one of
 -- j + k: `run_split`; halted however often: `run_in_parts_lem`. Halted after any step it has that step's state, so no run does its work in the first step
 -- and idles: `run_halted`. A budget of the steps that stand there is enough: `run_enough`. Assumes nothing.
-use Rattle.std.proofs.Common.{◌≡◌, ℕ, zero, suc, ◌+◌, ◌<◌, ◌≤◌, true, false, ◌⊎◌, List, [], ◌∷◌, length, get_or, sym, refl, ap, ◌∙◌, subst, inl, inr, add_assoc, suc-add, zero-add, add-one, arith}
+use Rattle.std.proofs.Common.{◌≡◌, ℕ, zero, suc, ◌+◌, ◌<◌, ◌≤◌, true, false, List, [], ◌∷◌, length, get_or, sym, refl, ap, ◌∙◌, subst, add_assoc, suc-add, zero-add, add-one, arith}
 use Rattle.step.specs.declared.registers.State.{State}
 use Rattle.step.specs.declared.forms.Step.{Step}
 use Rattle.step.specs.declared.steps.Fault.TheVariants.{StartPastEnd}
 use Rattle.step.specs.declared.steps.Outcome.{Outcome}
-use Rattle.step.specs.declared.steps.Outcome.TheVariants.{Done, Trapped, Refused, Stopped}
+use Rattle.step.specs.declared.steps.Outcome.TheVariants.{Done, Trapped, Refused}
 use Rattle.step.specs.declared.steps.Performed.{Performed}
 use Rattle.step.specs.declared.runs.End.{End}
 use Rattle.step.specs.declared.runs.End.TheVariants as End
 use Rattle.step.specs.declared.runs.Ran.{Ran}
 use Rattle.step.specs.Run.{Spot, here, at_end, past_end, spot_of, ends, counted, after, followed, met, run_of}
-use Rattle.step.specs.Parts.{TookStop, NextPlace, goes_on, run_in_parts, PartsGo, total}
+use Rattle.step.specs.Parts.{goes_on, run_in_parts, PartsGo, total}
 
 pub no : {A : Type 0} → false ≡ true → A
 no e = let z : ◌≡◌ {A = ℕ} 0 1 = cc in absurd (omega arith)
@@ -57,63 +57,33 @@ module _ (f : State → Step → Performed) (l : List Step) where
   unfolding run_of
   run_none s p k e = rw e
 
-  pub run_step : (s : State) (p b : ℕ) (k : Step) → spot_of l p ≡ here k → run_of f l s p (suc b) ≡ followed (f s k).outcome (f s k) p k.line (length l) (λ t q. run_of f l t q b)
+  pub run_step : (s : State) (p b : ℕ) (k : Step) → spot_of l p ≡ here k → run_of f l s p (suc b) ≡ followed (f s k).outcome (f s k) p k.line (λ t q. run_of f l t q b)
   unfolding run_of
   run_step s p b k e = rw e
 
   -- ---- the steps done
-  -- one step of c clocks more, from place p on, before a run from the place after it
-  later : (c p : ℕ) (r : Ran) → NextPlace f l (suc p) r → NextPlace f l p (counted c r)
-  later c p r (inl e) = inl (omega (arith, e))
-  later c p r (inr t) = inr (record { place = t.place; stop = t.stop; state = t.state; there = t.there; taken = t.taken; left = t.left; last = omega (arith, t.last); finished = t.finished; next = t.next })
+  next_followed : (o : Outcome) (w : Performed) (p line : ℕ) (on : State → ℕ → Ran) → ((t : State) (q : ℕ) → (on t q).next ≡ q + (on t q).steps)
+      → (followed o w p line on).next ≡ p + (followed o w p line on).steps
+  next_followed Done w p line on h = h w.state (suc p) ∙ omega arith
+  next_followed (Trapped x) w p line on h = omega arith
+  next_followed (Refused x) w p line on h = omega arith
 
-  next_followed : (o : Outcome) (s : State) (p : ℕ) (k : Step) (on : State → ℕ → Ran) → o ≡ (f s k).outcome → spot_of l p ≡ here k
-      → ((t : State) (q : ℕ) → NextPlace f l q (on t q)) → ((t : State) → on t (length l) ≡ ends End.Finished t (length l))
-      → NextPlace f l p (followed o (f s k) p k.line (length l) on)
-  next_followed Done s p k on is at h end = later (f s k).clocks p _ (h (f s k).state (suc p))
-  next_followed (Trapped x) s p k on is at h end = inl (omega arith)
-  next_followed (Refused x) s p k on is at h end = inl (omega arith)
-  next_followed Stopped s p k on is at h end =
-      let over = end (f s k).state in
-      inr (record {
-        place = p;
-        stop = k;
-        state = s;
-        there = at;
-        taken = sym is;
-        left = sym (ap (λ (r : Ran). r.state) over);
-        last = ap (λ (r : Ran). p + suc r.steps) over ∙ omega arith;
-        finished = ap (λ (r : Ran). r.end) over;
-        next = ap (λ (r : Ran). r.next) over;
-      })
+  next_met : (o : Spot) (s : State) (p : ℕ) (on : Step → Ran) → ((k : Step) → (on k).next ≡ p + (on k).steps) → (met o s p on).next ≡ p + (met o s p on).steps
+  next_met past_end s p on h = omega arith
+  next_met at_end s p on h = omega arith
+  next_met (here k) s p on h = h k
 
-  next_met : (o : Spot) (s : State) (p : ℕ) (on : Step → Ran) → spot_of l p ≡ o → ((k : Step) → spot_of l p ≡ here k → NextPlace f l p (on k)) → NextPlace f l p (met o s p on)
-  next_met past_end s p on at h = inl (omega arith)
-  next_met at_end s p on at h = inl (omega arith)
-  next_met (here k) s p on at h = h k at
-
-  -- the steps done are the next place less the start place, however the run ends, unless a stop was taken: no step count can be made up
-  pub run_next : (s : State) (p b : ℕ) → NextPlace f l p (run_of f l s p b)
+  -- the steps done are the next place less the start place, however the run ends: no step count can be made up
+  pub run_next : (s : State) (p b : ℕ) → (run_of f l s p b).next ≡ p + (run_of f l s p b).steps
   unfolding run_of
-  run_next s p zero = next_met (spot_of l p) s p _ refl (λ k at. inl (omega arith))
-  run_next s p (suc b) =
-      next_met (spot_of l p) s p _ refl
-      (λ k at. next_followed (f s k).outcome s p k (λ t q. run_of f l t q b) refl at (λ t q. run_next t q b) (λ t. run_end t (length l) b (spot_end l (length l) refl)))
-
-  -- where no step of the listing stops, none was
-  pub run_straight : ((k : Step) (s : State) → (f s k).outcome ≡ Stopped → (p : ℕ) → spot_of l p ≡ here k → ⊥) → (s : State) (p b : ℕ) → (run_of f l s p b).next ≡ p + (run_of f l s p b).steps
-  run_straight never s p b = go (run_next s p b)
-    where
-      go : NextPlace f l p (run_of f l s p b) → (run_of f l s p b).next ≡ p + (run_of f l s p b).steps
-      go (inl e) = e
-      go (inr t) = absurd (never t.stop t.state t.taken t.place t.there)
+  run_next s p zero = next_met (spot_of l p) s p _ (λ k. omega arith)
+  run_next s p (suc b) = next_met (spot_of l p) s p _ (λ k. next_followed (f s k).outcome (f s k) p k.line _ (λ t q. run_next t q b))
 
   -- ---- the budget
-  few_followed : (o : Outcome) (w : Performed) (p line e b : ℕ) (on : State → ℕ → Ran) → ((t : State) (q : ℕ) → (on t q).steps ≤ b) → (followed o w p line e on).steps ≤ suc b
-  few_followed Done w p line e b on h = omega (arith, h w.state (suc p))
-  few_followed (Trapped x) w p line e b on h = omega arith
-  few_followed (Refused x) w p line e b on h = omega arith
-  few_followed Stopped w p line e b on h = omega (arith, h w.state e)
+  few_followed : (o : Outcome) (w : Performed) (p line b : ℕ) (on : State → ℕ → Ran) → ((t : State) (q : ℕ) → (on t q).steps ≤ b) → (followed o w p line on).steps ≤ suc b
+  few_followed Done w p line b on h = omega (arith, h w.state (suc p))
+  few_followed (Trapped x) w p line b on h = omega arith
+  few_followed (Refused x) w p line b on h = omega arith
 
   few_met : (o : Spot) (s : State) (p b : ℕ) (on : Step → Ran) → ((k : Step) → (on k).steps ≤ b) → (met o s p on).steps ≤ b
   few_met past_end s p b on h = omega arith
@@ -124,20 +94,19 @@ module _ (f : State → Step → Performed) (l : List Step) where
   pub run_few : (s : State) (p b : ℕ) → (run_of f l s p b).steps ≤ b
   unfolding run_of
   run_few s p zero = few_met (spot_of l p) s p 0 _ (λ k. omega arith)
-  run_few s p (suc b) = few_met (spot_of l p) s p (suc b) _ (λ k. few_followed (f s k).outcome (f s k) p k.line (length l) b _ (λ t q. run_few t q b))
+  run_few s p (suc b) = few_met (spot_of l p) s p (suc b) _ (λ k. few_followed (f s k).outcome (f s k) p k.line b _ (λ t q. run_few t q b))
 
-  like_followed : (o : Outcome) (w : Performed) (p line e : ℕ) (on on' : State → ℕ → Ran) → ((t : State) → on t (suc p) ≡ on' t (suc p)) → ((t : State) → on t e ≡ on' t e) → followed o w p line e on ≡ followed o w p line e on'
-  like_followed Done w p line e on on' h end = ap (counted w.clocks) (h w.state)
-  like_followed (Trapped x) w p line e on on' h end = refl
-  like_followed (Refused x) w p line e on on' h end = refl
-  like_followed Stopped w p line e on on' h end = ap (counted w.clocks) (end w.state)
+  like_followed : (o : Outcome) (w : Performed) (p line : ℕ) (on on' : State → ℕ → Ran) → ((t : State) → on t (suc p) ≡ on' t (suc p)) → followed o w p line on ≡ followed o w p line on'
+  like_followed Done w p line on on' h = ap (counted w.clocks) (h w.state)
+  like_followed (Trapped x) w p line on on' h = refl
+  like_followed (Refused x) w p line on on' h = refl
 
   enough_at : (m b : ℕ) (s : State) (p : ℕ) (o : Spot) → spot_of l p ≡ o → ((t : State) → run_of f l t (suc p) b ≡ run_of f l t (suc p) m) → run_of f l s p (suc b) ≡ run_of f l s p (suc m)
   enough_at m b s p past_end at h = run_past s p (suc b) at ∙ sym (run_past s p (suc m) at)
   enough_at m b s p at_end at h = run_end s p (suc b) at ∙ sym (run_end s p (suc m) at)
   enough_at m b s p (here k) at h =
       run_step s p b k at
-      ∙ (like_followed (f s k).outcome (f s k) p k.line (length l) (λ t q. run_of f l t q b) (λ t q. run_of f l t q m) h (λ t. run_end t (length l) b (spot_end l (length l) refl) ∙ sym (run_end t (length l) m (spot_end l (length l) refl)))
+      ∙ (like_followed (f s k).outcome (f s k) p k.line (λ t q. run_of f l t q b) (λ t q. run_of f l t q m) h
       ∙ sym (run_step s p m k at))
 
   -- a budget of the steps that stand from p to the end is enough, whatever the budget beyond it
@@ -151,12 +120,11 @@ module _ (f : State → Step → Performed) (l : List Step) where
   abbrev pub continued : (k : ℕ) → Ran → Ran
   continued k r = after r.steps r.clocks (run_of f l r.state r.next k)
 
-  split_followed : (o : Outcome) (w : Performed) (p line e k : ℕ) (first whole : State → ℕ → Ran) → ((t : State) (q : ℕ) → goes_on (first t q).end ≡ true → whole t q ≡ continued k (first t q))
-      → goes_on (followed o w p line e first).end ≡ true → followed o w p line e whole ≡ continued k (followed o w p line e first)
-  split_followed Done w p line e k first whole h g = simp (h w.state (suc p) g, add_assoc, suc-add)
-  split_followed (Trapped x) w p line e k first whole h g = no g
-  split_followed (Refused x) w p line e k first whole h g = no g
-  split_followed Stopped w p line e k first whole h g = simp (h w.state e g, add_assoc, suc-add)
+  split_followed : (o : Outcome) (w : Performed) (p line k : ℕ) (first whole : State → ℕ → Ran) → ((t : State) (q : ℕ) → goes_on (first t q).end ≡ true → whole t q ≡ continued k (first t q))
+      → goes_on (followed o w p line first).end ≡ true → followed o w p line whole ≡ continued k (followed o w p line first)
+  split_followed Done w p line k first whole h g = simp (h w.state (suc p) g, add_assoc, suc-add)
+  split_followed (Trapped x) w p line k first whole h g = no g
+  split_followed (Refused x) w p line k first whole h g = no g
 
   split_met : (o : Spot) (s : State) (p k : ℕ) (first whole : Step → Ran) → (o ≡ at_end → run_of f l s p k ≡ ends End.Finished s p)
       → ((t : Step) → goes_on (first t).end ≡ true → whole t ≡ continued k (first t))
@@ -179,15 +147,14 @@ module _ (f : State → Step → Performed) (l : List Step) where
   run_split s p zero k g = ap (run_of f l s p) (zero-add k) ∙ split_none (spot_of l p) s p k g
   run_split s p (suc j) k g =
       ap (run_of f l s p) (suc-add j k)
-      ∙ split_met (spot_of l p) s p k _ _ (run_end s p k) (λ t. split_followed (f s t).outcome (f s t) p t.line (length l) k (λ u q. run_of f l u q j) (λ u q. run_of f l u q (j + k)) (λ u q. run_split u q j k)) g
+      ∙ split_met (spot_of l p) s p k _ _ (run_end s p k) (λ t. split_followed (f s t).outcome (f s t) p t.line k (λ u q. run_of f l u q j) (λ u q. run_of f l u q (j + k)) (λ u q. run_split u q j k)) g
 
   -- what goes on after j + k steps went on after j
-  going_followed : (o : Outcome) (w : Performed) (p line e : ℕ) (on on' : State → ℕ → Ran) → ((t : State) (q : ℕ) → goes_on (on t q).end ≡ true → goes_on (on' t q).end ≡ true)
-      → goes_on (followed o w p line e on).end ≡ true → goes_on (followed o w p line e on').end ≡ true
-  going_followed Done w p line e on on' h g = h w.state (suc p) g
-  going_followed (Trapped x) w p line e on on' h g = g
-  going_followed (Refused x) w p line e on on' h g = g
-  going_followed Stopped w p line e on on' h g = h w.state e g
+  going_followed : (o : Outcome) (w : Performed) (p line : ℕ) (on on' : State → ℕ → Ran) → ((t : State) (q : ℕ) → goes_on (on t q).end ≡ true → goes_on (on' t q).end ≡ true)
+      → goes_on (followed o w p line on).end ≡ true → goes_on (followed o w p line on').end ≡ true
+  going_followed Done w p line on on' h g = h w.state (suc p) g
+  going_followed (Trapped x) w p line on on' h g = g
+  going_followed (Refused x) w p line on on' h g = g
 
   going_met : (o : Spot) (s : State) (p : ℕ) (on on' : Step → Ran) → ((k : Step) → goes_on (on k).end ≡ true → goes_on (on' k).end ≡ true)
       → goes_on (met o s p on).end ≡ true → goes_on (met o s p on').end ≡ true
@@ -204,7 +171,7 @@ module _ (f : State → Step → Performed) (l : List Step) where
   unfolding run_of
   run_going s p zero k g = going_none s p (0 + k) g
   run_going s p (suc j) k g =
-      going_met (spot_of l p) s p _ _ (λ t. going_followed (f s t).outcome (f s t) p t.line (length l) (λ u q. run_of f l u q (j + k)) (λ u q. run_of f l u q j) (λ u q. run_going u q j k))
+      going_met (spot_of l p) s p _ _ (λ t. going_followed (f s t).outcome (f s t) p t.line (λ u q. run_of f l u q (j + k)) (λ u q. run_of f l u q j) (λ u q. run_going u q j k))
       (subst (λ (b : ℕ). goes_on (run_of f l s p b).end ≡ true) (suc-add j k) g)
 
   -- however often a run is halted, it comes to what it would have come to
@@ -223,11 +190,10 @@ module _ (f : State → Step → Performed) (l : List Step) where
 
   -- ---- halted after any step
 
-  step_state : (o : Outcome) (w : Performed) (p line e : ℕ) (on : State → ℕ → Ran) → ((t : State) (q : ℕ) → (on t q).state ≡ t) → (followed o w p line e on).state ≡ w.state
-  step_state Done w p line e on h = h w.state (suc p)
-  step_state (Trapped x) w p line e on h = refl
-  step_state (Refused x) w p line e on h = refl
-  step_state Stopped w p line e on h = h w.state e
+  step_state : (o : Outcome) (w : Performed) (p line : ℕ) (on : State → ℕ → Ran) → ((t : State) (q : ℕ) → (on t q).state ≡ t) → (followed o w p line on).state ≡ w.state
+  step_state Done w p line on h = h w.state (suc p)
+  step_state (Trapped x) w p line on h = refl
+  step_state (Refused x) w p line on h = refl
 
   none_state : (t : State) (q : ℕ) → (run_of f l t q 0).state ≡ t
   unfolding run_of
@@ -247,4 +213,4 @@ module _ (f : State → Step → Performed) (l : List Step) where
       ap (λ (b : ℕ). (run_of f l s p b).state) (sym (add-one j))
       ∙ (ap (λ (r : Ran). r.state) (run_split s p j 1 g)
       ∙ (ap (λ (r : Ran). r.state) (run_step r.state r.next 0 k at)
-      ∙ step_state (f r.state k).outcome (f r.state k) r.next k.line (length l) (λ t q. run_of f l t q 0) none_state))
+      ∙ step_state (f r.state k).outcome (f r.state k) r.next k.line (λ t q. run_of f l t q 0) none_state))

@@ -2,7 +2,6 @@
 --     Stands          steps stand in the listing from a place on: `stands_first`, `stands_left`, `stands_right`
 --     Leads           n steps of c clocks in all lead from state s at place p to state t at place q, whatever budget is left: `leads_none`, `leads_then`,
 --                     `leads_like`
---     leads_done, leads_stopped   a step that is done leads to the next place, a stop that is taken to the listing's end
 --     leads_through   legal steps that stand in the listing lead through it, to the state that they leave
 --     leads_in_parts  and so does a run that is halted as often as one likes
 --     idle            with no budget a run stays where it is
@@ -11,7 +10,7 @@ use mathlib.Core.Path.{subst⁻¹}
 use Rattle.step.specs.declared.registers.State.{State}
 use Rattle.step.specs.declared.forms.Step.{Step}
 use Rattle.step.specs.declared.steps.Outcome.{Outcome}
-use Rattle.step.specs.declared.steps.Outcome.TheVariants.{Done, Stopped}
+use Rattle.step.specs.declared.steps.Outcome.TheVariants.{Done}
 use Rattle.step.specs.declared.steps.Performed.{Performed}
 use Rattle.step.specs.declared.runs.End.{End}
 use Rattle.step.specs.declared.runs.End.TheVariants as End
@@ -90,25 +89,14 @@ module _ (f : State → Step → Performed) (l : List Step) where
   leads_like {s} {t} {p} {n} {c} {q} h m r e g = subst (λ (i : ℕ). Leads s p m c t i) g (subst (λ (i : ℕ). Leads s p i c t q) e h)
 
   -- a step that is done
-  pub leads_done : {k : Step} {s t : State} {p c : ℕ} → spot_of l p ≡ here k → Gives (f s k) Done t c → Leads s p 1 c t (suc p)
+  leads_done : {k : Step} {s t : State} {p c : ℕ} → spot_of l p ≡ here k → Gives (f s k) Done t c → Leads s p 1 c t (suc p)
   leads_done {k} {s} {t} {p} {c} at does =
       record {
         runs =
             λ b. ap (run_of f l s p) (one-add b)
             ∙ (run_step f l s p b k at
-            ∙ (ap (λ (x : Outcome). followed x (f s k) p k.line (length l) (λ t q. run_of f l t q b)) does.outcome
+            ∙ (ap (λ (x : Outcome). followed x (f s k) p k.line (λ t q. run_of f l t q b)) does.outcome
             ∙ (ap₂ {C = Ran} (λ (t : State) (c : ℕ). counted c (run_of f l t (suc p) b)) does.state does.clocks ∙ after_one c _)));
-      }
-
-  -- a stop that is taken leads to the listing's end
-  pub leads_stopped : {k : Step} {s t : State} {p c : ℕ} → spot_of l p ≡ here k → Gives (f s k) Stopped t c → Leads s p 1 c t (length l)
-  leads_stopped {k} {s} {t} {p} {c} at does =
-      record {
-        runs =
-            λ b. ap (run_of f l s p) (one-add b)
-            ∙ (run_step f l s p b k at
-            ∙ (ap (λ (x : Outcome). followed x (f s k) p k.line (length l) (λ t q. run_of f l t q b)) does.outcome
-            ∙ (ap₂ {C = Ran} (λ (t : State) (c : ℕ). counted c (run_of f l t (length l) b)) does.state does.clocks ∙ after_one c _)));
       }
 
   -- Steps that lead somewhere lead there in parts: budgets b and bs, enough for them and `more`. No part is trapped or refused

@@ -1,12 +1,11 @@
 -- The lines that steps carry have no effect but to be told. Without them a listing runs the same: `run_bare`, in parts `parts_bare`; so two listings that
 -- differ in lines alone run alike: `lines_only`. A trap and a refusal tell the line of the step at their place: `line_told`. Assumes nothing.
-use Rattle.std.proofs.Common.{◌≡◌, ℕ, zero, suc, true, List, [], ◌∷◌, map, length, sym, refl, ap, ◌∙◌, subst}
+use Rattle.std.proofs.Common.{◌≡◌, ℕ, zero, suc, true, List, [], ◌∷◌, map, sym, refl, ap, ◌∙◌, subst}
 use mathlib.Core.Path.{subst⁻¹}
-use lib.ListN.{length-map}
 use Rattle.step.specs.declared.registers.State.{State}
 use Rattle.step.specs.declared.forms.Step.{Step}
 use Rattle.step.specs.declared.steps.Outcome.{Outcome}
-use Rattle.step.specs.declared.steps.Outcome.TheVariants.{Done, Trapped, Refused, Stopped}
+use Rattle.step.specs.declared.steps.Outcome.TheVariants.{Done, Trapped, Refused}
 use Rattle.step.specs.declared.steps.Performed.{Performed}
 use Rattle.step.specs.declared.runs.End.{End}
 use Rattle.step.specs.declared.runs.End.TheVariants as End
@@ -43,12 +42,11 @@ goes_bare (End.Trapped trap p n) = refl
 goes_bare (End.Refused fault p n) = refl
 
 module _ (f : State → Step → Performed) (unseen : Blind f) (l : List Step) where
-  bare_followed : (o : Outcome) (w : Performed) (p line e : ℕ) (on on' : State → ℕ → Ran) → ((t : State) (q : ℕ) → bare_ran (on t q) ≡ on' t q)
-      → bare_ran (followed o w p line e on) ≡ followed o w p 0 e on'
-  bare_followed Done w p line e on on' h = ap (counted w.clocks) (h w.state (suc p))
-  bare_followed (Trapped x) w p line e on on' h = refl
-  bare_followed (Refused x) w p line e on on' h = refl
-  bare_followed Stopped w p line e on on' h = ap (counted w.clocks) (h w.state e)
+  bare_followed : (o : Outcome) (w : Performed) (p line : ℕ) (on on' : State → ℕ → Ran) → ((t : State) → bare_ran (on t (suc p)) ≡ on' t (suc p))
+      → bare_ran (followed o w p line on) ≡ followed o w p 0 on'
+  bare_followed Done w p line on on' h = ap (counted w.clocks) (h w.state)
+  bare_followed (Trapped x) w p line on on' h = refl
+  bare_followed (Refused x) w p line on on' h = refl
 
   bare_met : (o : Spot) (s : State) (p : ℕ) (on on' : Step → Ran) → ((k : Step) → bare_ran (on k) ≡ on' (bare k)) → bare_ran (met o s p on) ≡ met (bare_spot o) s p on'
   bare_met past_end s p on on' h = refl
@@ -60,9 +58,9 @@ module _ (f : State → Step → Performed) (unseen : Blind f) (l : List Step) w
   run_bare s p zero = rw (spot_bare l p) (bare_met (spot_of l p) s p (λ k. ends End.Budget s p) (λ k. ends End.Budget s p) (λ k. refl))
   run_bare s p (suc b) =
       rw (spot_bare l p)
-      (bare_met (spot_of l p) s p (λ k. followed (f s k).outcome (f s k) p k.line (length l) (λ t q. run_of f l t q b))
-      (λ k. followed (f s k).outcome (f s k) p k.line (length (map bare l)) (λ t q. run_of f (map bare l) t q b))
-      (λ k. rw (unseen s k, length-map l bare) (bare_followed (f s k).outcome (f s k) p k.line (length l) _ _ (λ t q. run_bare t q b))))
+      (bare_met (spot_of l p) s p (λ k. followed (f s k).outcome (f s k) p k.line (λ t q. run_of f l t q b))
+      (λ k. followed (f s k).outcome (f s k) p k.line (λ t q. run_of f (map bare l) t q b))
+      (λ k. rw (unseen s k) (bare_followed (f s k).outcome (f s k) p k.line _ _ (λ t. run_bare t (suc p) b))))
 
   -- halted and continued, however often
   pub parts_bare : (bs : List ℕ) (s : State) (p b : ℕ) → bare_ran (run_in_parts f l s p b bs) ≡ run_in_parts f (map bare l) s p b bs
@@ -85,12 +83,11 @@ lines_only l m e s p b = run_bare perform_of blind l s p b ∙ (ap (λ (k : List
 -- ---- the line that is told
 
 module _ (f : State → Step → Performed) (l : List Step) where
-  told_followed : (o : Outcome) (w : Performed) (p e : ℕ) (k : Step) (on : State → ℕ → Ran) → spot_of l p ≡ here k → ((t : State) (q : ℕ) → TellsLine l (on t q).end)
-      → TellsLine l (followed o w p k.line e on).end
-  told_followed Done w p e k on at h = h w.state (suc p)
-  told_followed (Trapped x) w p e k on at h = ap spot_line (sym at)
-  told_followed (Refused x) w p e k on at h = ap spot_line (sym at)
-  told_followed Stopped w p e k on at h = h w.state e
+  told_followed : (o : Outcome) (w : Performed) (p : ℕ) (k : Step) (on : State → ℕ → Ran) → spot_of l p ≡ here k → ((t : State) (q : ℕ) → TellsLine l (on t q).end)
+      → TellsLine l (followed o w p k.line on).end
+  told_followed Done w p k on at h = h w.state (suc p)
+  told_followed (Trapped x) w p k on at h = ap spot_line (sym at)
+  told_followed (Refused x) w p k on at h = ap spot_line (sym at)
 
   told_met : (o : Spot) (s : State) (p : ℕ) (on : Step → Ran) → spot_of l p ≡ o → ((k : Step) → spot_of l p ≡ here k → TellsLine l (on k).end) → TellsLine l (met o s p on).end
   told_met past_end s p on at h = ap spot_line (sym at)
@@ -100,7 +97,7 @@ module _ (f : State → Step → Performed) (l : List Step) where
   told : (s : State) (p b : ℕ) → TellsLine l (run_of f l s p b).end
   unfolding run_of
   told s p zero = told_met (spot_of l p) s p _ refl (λ k at. tt)
-  told s p (suc b) = told_met (spot_of l p) s p _ refl (λ k at. told_followed (f s k).outcome (f s k) p (length l) k _ at (λ t q. told t q b))
+  told s p (suc b) = told_met (spot_of l p) s p _ refl (λ k at. told_followed (f s k).outcome (f s k) p k _ at (λ t q. told t q b))
 
 pub line_told : LineTold
 line_told l s p b = told perform_of l s p b

@@ -2,7 +2,7 @@
 -- stands:
 --     past_numbers, end_numbers_lem, spent_numbers   a start past the end: 3, 10 and the start place; at the end: 0; the budget spent: 1
 --     refused_numbers, trapped_numbers           3 or 2, the step's own number or class, and its place; state, next place, steps and figures with them
---     done_on, stopped_on                        a step that is neither refused nor trapped: the run goes on after it; a stop that is taken: at the end, Finished
+--     done_on                                    a step that is neither refused nor trapped: the run goes on after it
 --     going_number, split_numbers                a run goes on exactly where it ends with 0 or 1; continued from there it ends as it ends from there
 --     run_places                                 however far a run went: refused, its next place is the place told; trapped, it is the one after
 -- and of the steps of document 01:
@@ -18,7 +18,7 @@ use Rattle.step.specs.declared.steps.Fault.TheVariants.{BadSmall, NoSuchSize, No
 use Rattle.step.specs.declared.steps.Trap.{Trap}
 use Rattle.step.specs.declared.steps.Trap.TheVariants.{Over, Short, Below}
 use Rattle.step.specs.declared.steps.Outcome.{Outcome}
-use Rattle.step.specs.declared.steps.Outcome.TheVariants.{Done, Trapped, Refused, Stopped}
+use Rattle.step.specs.declared.steps.Outcome.TheVariants.{Done, Trapped, Refused}
 use Rattle.step.specs.declared.steps.Performed.{Performed}
 use Rattle.step.specs.declared.runs.End.{End}
 use Rattle.step.specs.declared.runs.End.TheVariants as End
@@ -49,26 +49,23 @@ class_some Short e = omega arith
 class_some Below e = omega arith
 
 -- ---- by the step's outcome
-refused_followed : (o : Outcome) (w : Performed) (p line e : ℕ) (on : State → ℕ → Ran) → (refused_with o ≡ 0 → ⊥)
-    → let r = followed o w p line e on in (end_numbers r.end ≡ 3 ∷ refused_with o ∷ p ∷ []) × (r ≡ ends r.end w.state p)
-refused_followed Done w p line e on h = absurd (h refl)
-refused_followed (Trapped trap) w p line e on h = absurd (h refl)
-refused_followed (Refused fault) w p line e on h = (refl, refl)
-refused_followed Stopped w p line e on h = absurd (h refl)
+refused_followed : (o : Outcome) (w : Performed) (p line : ℕ) (on : State → ℕ → Ran) → (refused_with o ≡ 0 → ⊥)
+    → let r = followed o w p line on in (end_numbers r.end ≡ 3 ∷ refused_with o ∷ p ∷ []) × (r ≡ ends r.end w.state p)
+refused_followed Done w p line on h = absurd (h refl)
+refused_followed (Trapped trap) w p line on h = absurd (h refl)
+refused_followed (Refused fault) w p line on h = (refl, refl)
 
-trapped_followed : (o : Outcome) (w : Performed) (p line e : ℕ) (on : State → ℕ → Ran) → (trapped_with o ≡ 0 → ⊥)
-    → let r = followed o w p line e on in (end_numbers r.end ≡ 2 ∷ trapped_with o ∷ p ∷ []) × (r ≡ counted w.clocks (ends r.end w.state (suc p)))
-trapped_followed Done w p line e on h = absurd (h refl)
-trapped_followed (Trapped trap) w p line e on h = (refl, refl)
-trapped_followed (Refused fault) w p line e on h = absurd (h refl)
-trapped_followed Stopped w p line e on h = absurd (h refl)
+trapped_followed : (o : Outcome) (w : Performed) (p line : ℕ) (on : State → ℕ → Ran) → (trapped_with o ≡ 0 → ⊥)
+    → let r = followed o w p line on in (end_numbers r.end ≡ 2 ∷ trapped_with o ∷ p ∷ []) × (r ≡ counted w.clocks (ends r.end w.state (suc p)))
+trapped_followed Done w p line on h = absurd (h refl)
+trapped_followed (Trapped trap) w p line on h = (refl, refl)
+trapped_followed (Refused fault) w p line on h = absurd (h refl)
 
-done_followed : (o : Outcome) (w : Performed) (p line e : ℕ) (on : State → ℕ → Ran) → refused_with o ≡ 0 → trapped_with o ≡ 0 → (o ≡ Stopped → ⊥)
-    → followed o w p line e on ≡ counted w.clocks (on w.state (suc p))
-done_followed Done w p line e on h k g = refl
-done_followed (Trapped trap) w p line e on h k g = absurd (class_some trap k)
-done_followed (Refused fault) w p line e on h k g = absurd (number_some fault h)
-done_followed Stopped w p line e on h k g = absurd (g refl)
+done_followed : (o : Outcome) (w : Performed) (p line : ℕ) (on : State → ℕ → Ran) → refused_with o ≡ 0 → trapped_with o ≡ 0
+    → followed o w p line on ≡ counted w.clocks (on w.state (suc p))
+done_followed Done w p line on h k = refl
+done_followed (Trapped trap) w p line on h k = absurd (class_some trap k)
+done_followed (Refused fault) w p line on h k = absurd (number_some fault h)
 
 -- ---- the place told and the next place
 pub record Places (r : Ran) : Type 0 where
@@ -89,11 +86,10 @@ goes_places End.Budget s p g = record { of_refusal = λ n q. other (λ e. omega 
 goes_places (End.Trapped trap q line) s p g = none g
 goes_places (End.Refused fault q line) s p g = none g
 
-places_followed : (o : Outcome) (w : Performed) (p line e : ℕ) (on : State → ℕ → Ran) → ((t : State) (q : ℕ) → Places (on t q)) → Places (followed o w p line e on)
-places_followed Done w p line e on h = let u = h w.state (suc p) in record { of_refusal = u.of_refusal; of_trap = u.of_trap }
-places_followed (Trapped trap) w p line e on h = record { of_refusal = λ n q. other (λ e. omega arith); of_trap = λ c q e. ap suc (same 2 e) }
-places_followed (Refused fault) w p line e on h = record { of_refusal = λ n q e. same 2 e; of_trap = λ c q. other (λ e. omega arith) }
-places_followed Stopped w p line e on h = let u = h w.state e in record { of_refusal = u.of_refusal; of_trap = u.of_trap }
+places_followed : (o : Outcome) (w : Performed) (p line : ℕ) (on : State → ℕ → Ran) → ((t : State) (q : ℕ) → Places (on t q)) → Places (followed o w p line on)
+places_followed Done w p line on h = let u = h w.state (suc p) in record { of_refusal = u.of_refusal; of_trap = u.of_trap }
+places_followed (Trapped trap) w p line on h = record { of_refusal = λ n q. other (λ e. omega arith); of_trap = λ c q e. ap suc (same 2 e) }
+places_followed (Refused fault) w p line on h = record { of_refusal = λ n q e. same 2 e; of_trap = λ c q. other (λ e. omega arith) }
 
 places_met : (o : Spot) (s : State) (p : ℕ) (on : Step → Ran) → ((k : Step) → Places (on k)) → Places (met o s p on)
 places_met past_end s p on h = record { of_refusal = λ n q e. same 2 e; of_trap = λ c q. other (λ e. omega arith) }
@@ -114,22 +110,15 @@ module _ (f : State → Step → Performed) (l : List Step) where
   -- ---- the step at the place where the run stands
   pub refused_numbers : (s : State) (p b : ℕ) (k : Step) → spot_of l p ≡ here k → (refused_with (f s k).outcome ≡ 0 → ⊥)
       → let r = run_of f l s p (suc b) in (end_numbers r.end ≡ 3 ∷ refused_with (f s k).outcome ∷ p ∷ []) × (r ≡ ends r.end (f s k).state p)
-  refused_numbers s p b k at h = rw (run_step f l s p b k at) (refused_followed (f s k).outcome (f s k) p k.line (length l) (λ t q. run_of f l t q b) h)
+  refused_numbers s p b k at h = rw (run_step f l s p b k at) (refused_followed (f s k).outcome (f s k) p k.line (λ t q. run_of f l t q b) h)
 
   pub trapped_numbers : (s : State) (p b : ℕ) (k : Step) → spot_of l p ≡ here k → (trapped_with (f s k).outcome ≡ 0 → ⊥)
       → let r = run_of f l s p (suc b) in (end_numbers r.end ≡ 2 ∷ trapped_with (f s k).outcome ∷ p ∷ []) × (r ≡ counted (f s k).clocks (ends r.end (f s k).state (suc p)))
-  trapped_numbers s p b k at h = rw (run_step f l s p b k at) (trapped_followed (f s k).outcome (f s k) p k.line (length l) (λ t q. run_of f l t q b) h)
+  trapped_numbers s p b k at h = rw (run_step f l s p b k at) (trapped_followed (f s k).outcome (f s k) p k.line (λ t q. run_of f l t q b) h)
 
-  pub done_on : (s : State) (p b : ℕ) (k : Step) → spot_of l p ≡ here k → refused_with (f s k).outcome ≡ 0 → trapped_with (f s k).outcome ≡ 0 → ((f s k).outcome ≡ Stopped → ⊥)
+  pub done_on : (s : State) (p b : ℕ) (k : Step) → spot_of l p ≡ here k → refused_with (f s k).outcome ≡ 0 → trapped_with (f s k).outcome ≡ 0
       → run_of f l s p (suc b) ≡ counted (f s k).clocks (run_of f l (f s k).state (suc p) b)
-  done_on s p b k at h c g = run_step f l s p b k at ∙ done_followed (f s k).outcome (f s k) p k.line (length l) (λ t q. run_of f l t q b) h c g
-
-  pub stopped_on : (s : State) (p b : ℕ) (k : Step) → spot_of l p ≡ here k → (f s k).outcome ≡ Stopped
-      → run_of f l s p (suc b) ≡ counted (f s k).clocks (ends End.Finished (f s k).state (length l))
-  stopped_on s p b k at e =
-      run_step f l s p b k at
-      ∙ (ap (λ (o : Outcome). followed o (f s k) p k.line (length l) (λ t q. run_of f l t q b)) e
-      ∙ ap (counted (f s k).clocks) (run_end f l (f s k).state (length l) b (spot_end l (length l) refl)))
+  done_on s p b k at h c = run_step f l s p b k at ∙ done_followed (f s k).outcome (f s k) p k.line (λ t q. run_of f l t q b) h c
 
   -- ---- a run of more than one step
   pub split_numbers : (s : State) (p j b : ℕ) {numbers : List ℕ} → let r = run_of f l s p j in goes_on r.end ≡ true
@@ -139,7 +128,7 @@ module _ (f : State → Step → Performed) (l : List Step) where
   pub run_places : (s : State) (p b : ℕ) → Places (run_of f l s p b)
   unfolding run_of
   run_places s p zero = places_met (spot_of l p) s p _ (λ k. goes_places End.Budget s p refl)
-  run_places s p (suc b) = places_met (spot_of l p) s p _ (λ k. places_followed (f s k).outcome (f s k) p k.line (length l) _ (λ t q. run_places t q b))
+  run_places s p (suc b) = places_met (spot_of l p) s p _ (λ k. places_followed (f s k).outcome (f s k) p k.line _ (λ t q. run_places t q b))
 
 -- ---- steps of document 01
 
@@ -163,28 +152,27 @@ perform_few s k = rw (perform_number s k.size k.form) (step_few (registers_of k.
 abbrev Few : End → Type 0
 Few e = (n p : ℕ) → end_numbers e ≡ 3 ∷ n ∷ p ∷ [] → n ≤ 3
 
-few_followed : (o : Outcome) (w : Performed) (p line e : ℕ) (on : State → ℕ → Ran) → refused_with o ≤ 3 → ((t : State) → Few (on t (suc p)).end) → ((t : State) → Few (on t e).end) → Few (followed o w p line e on).end
-few_followed Done w p line e on few h end = h w.state
-few_followed (Trapped trap) w p line e on few h end = λ n q. other (λ e. omega arith)
-few_followed (Refused fault) w p line e on few h end = λ n q e. subst (λ (n : ℕ). n ≤ 3) (same 1 e) few
-few_followed Stopped w p line e on few h end = end w.state
+few_followed : (o : Outcome) (w : Performed) (p line : ℕ) (on : State → ℕ → Ran) → refused_with o ≤ 3 → ((t : State) → Few (on t (suc p)).end) → Few (followed o w p line on).end
+few_followed Done w p line on few h = h w.state
+few_followed (Trapped trap) w p line on few h = λ n q. other (λ e. omega arith)
+few_followed (Refused fault) w p line on few h = λ n q e. subst (λ (n : ℕ). n ≤ 3) (same 1 e) few
 
 module _ (f : State → Step → Performed) (l : List Step) (few : (s : State) (k : Step) → refused_with (f s k).outcome ≤ 3) where
   few_none : (s : State) (p : ℕ) → p ≤ length l → Dec (p < length l) → Few (run_of f l s p 0).end
   few_none s p h (yes inside) = rw (run_none f l s p (get_or l p nowhere) (spot_here l p nowhere inside)) (λ n q. other (λ e. omega arith))
   few_none s p h (no past) = rw (run_end f l s p 0 (spot_end l p (omega arith))) (λ n q. other (λ e. omega arith))
 
-  few_step : (s : State) (p b : ℕ) → p ≤ length l → Dec (p < length l) → ((t : State) (q : ℕ) → q ≤ length l → Few (run_of f l t q b).end)
+  few_step : (s : State) (p b : ℕ) → p ≤ length l → Dec (p < length l) → ((t : State) → suc p ≤ length l → Few (run_of f l t (suc p) b).end)
       → Few (run_of f l s p (suc b)).end
   few_step s p b h (yes inside) on =
       let k = get_or l p nowhere in
       rw (run_step f l s p b k (spot_here l p nowhere inside))
-      (few_followed (f s k).outcome (f s k) p k.line (length l) (λ t q. run_of f l t q b) (few s k) (λ t. on t (suc p) (omega arith)) (λ t. on t (length l) (omega arith)))
+      (few_followed (f s k).outcome (f s k) p k.line (λ t q. run_of f l t q b) (few s k) (λ t. on t (omega arith)))
   few_step s p b h (no past) on = rw (run_end f l s p (suc b) (spot_end l p (omega arith))) (λ n q. other (λ e. omega arith))
 
   few_inside : (s : State) (p b : ℕ) → p ≤ length l → Few (run_of f l s p b).end
   few_inside s p zero h = few_none s p h (dec_lt p (length l))
-  few_inside s p (suc b) h = few_step s p b h (dec_lt p (length l)) (λ t q. few_inside t q b)
+  few_inside s p (suc b) h = few_step s p b h (dec_lt p (length l)) (λ t. few_inside t (suc p) b)
 
 -- started in the listing or at its end, a run is refused only with a step's number: 10 is given exactly when the start is past the end
 pub run_inside : (l : List Step) (s : State) (p b : ℕ) → p ≤ length l → (n q : ℕ) → end_numbers (run_of perform_of l s p b).end ≡ 3 ∷ n ∷ q ∷ [] → n ≤ 3

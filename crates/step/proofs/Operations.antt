@@ -2,6 +2,7 @@
 --     stands     the number of an operation is a place of the table, and the row there is the operation's
 --     places     the place of each row is its operation's number
 --     each_row   a test that passes at all rows and their places passes at each operation's
+--     missed     a number that is none of the places names none
 use Rattle.std.proofs.Common.{◌≡◌, ℕ, zero, suc, ◌+◌, ◌<◌, ◌≤◌, Bool, true, false, ◌&&◌, eqb, List, [], ◌∷◌, length, get_or, sym, refl, ◌∙◌, le_of_suc-le-suc, not-suc-le-zero, add-zero, add-suc, suc-add, zero-add, arith, lit<}
 use mathlib.Core.Bool.{false≢true}
 use lib.ListN.{get_or-eq_default}
@@ -12,7 +13,7 @@ use Rattle.step.specs.declared.forms.AddressOp.TheVariants.{Adda, Suba, Cmpa}
 use Rattle.step.specs.declared.forms.QuickOp.TheVariants.{Addq, Subq}
 use Rattle.step.specs.declared.forms.OneOp.TheVariants.{Clr, Neg, Negx, Not, Ext}
 use Rattle.step.specs.declared.forms.Operation.{Operation}
-use Rattle.step.specs.declared.forms.Operation.TheVariants.{Two, Address, Quick, QuickAddress, One, Shift, Bit, Chk, Stop}
+use Rattle.step.specs.declared.forms.Operation.TheVariants.{Two, Address, Quick, QuickAddress, One, Shift, Bit, Chk}
 use Rattle.step.specs.declared.forms.Found.TheVariants.{Is}
 use Rattle.step.specs.Operations.{Row, row, operations, operation_at, operation_number}
 
@@ -50,7 +51,6 @@ stands (Bit Bset) = (lit< tt, refl)
 stands (Bit Bclr) = (lit< tt, refl)
 stands (Bit Bchg) = (lit< tt, refl)
 stands Chk = (lit< tt, refl)
-stands Stop = (lit< tt, refl)
 
 -- ---- tests over the rows
 
@@ -75,3 +75,23 @@ places = refl
 
 pub each_row : (f : ℕ → Row → Bool) → every f 0 operations ≡ true → (o : Operation) → f (operation_number o) (get_or operations (operation_number o) (row Chk "")) ≡ true
 each_row f t o = rw (zero-add (operation_number o)) at (from f operations 0 (row Chk "") t (operation_number o) (stands o).0)
+
+-- ---- a number that names no row
+
+-- what a `match` on the m numbers from k on leaves to its last arm: T, and n is none of them
+abbrev pub Missed : Type 0 → (m k n : ℕ) → Type 0
+Missed T zero k n = T
+Missed T (suc m) k n = Missed (T × (n ≡ k → ⊥)) m (suc k) n
+
+above : {T : Type 0} (m k n : ℕ) → (T → k ≤ n) → Missed T m k n → T × (k + m ≤ n)
+above zero k n h t = (t, omega (arith, h t))
+above {T = T} (suc m) k n h t =
+    let up : T × (n ≡ k → ⊥) → suc k ≤ n = λ p. omega (arith, h p.0, p.1) in
+    let below = above m (suc k) n up t in
+    (below.0.0, omega (arith, below.1))
+
+-- so it is past the table
+pub missed : {A : Type 0} (table : List A) (other : A) (n : ℕ) → Missed (Unit {0}) (length table) 0 n → other ≡ get_or table n other
+missed table other n t =
+    let past : length table ≤ n = omega (arith, (above (length table) 0 n (λ u. omega arith) t).1) in
+    sym (get_or-eq_default table other past)

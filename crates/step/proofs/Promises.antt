@@ -2,9 +2,8 @@
 -- (`Steps`, `Promises`), so that recipes never open a definition of the crate alu, and shown of `perform_of` (`performs`). Assumes nothing.
 --     Promises      the first step of a chain is its other step from other flags (`add` to `asr`); N, Z and V of a word in a chain (`addx`, `subx`, `negx`);
 --                   each word's balance, which says value and X out at once (`addx_sum` to `roxr_sum`); CLR and NOT
---     Steps         a legal step is done, leaves what the operation answers, and has a figure that doesn't hang on the state; a stop goes by its condition, and
---                   changes nothing
-use Rattle.std.proofs.Common.{◌≡◌, ℕ, ◌+◌, ◌-◌, ◌*◌, ◌^◌, ◌<◌, Bool, true, false, cond, ◌&&◌, eqb, get_or, set, sym, refl, ap, ◌∙◌, mod-eq_of_lt, arith, lt-ltb}
+--     Steps         a legal step is done, leaves what the operation answers, and has a figure that doesn't hang on the state
+use Rattle.std.proofs.Common.{◌≡◌, ℕ, ◌+◌, ◌-◌, ◌*◌, ◌^◌, ◌<◌, Bool, true, false, ◌&&◌, eqb, get_or, set, sym, refl, ap, ◌∙◌, mod-eq_of_lt, arith, lt-ltb}
 use mathlib.Core.Path.{subst⁻¹}
 use Rattle.alu.specs.declared.types.Size.{Size}
 use Rattle.alu.specs.declared.types.Size.TheVariants.{Long}
@@ -16,8 +15,6 @@ use Rattle.alu.specs.declared.shift_rotate.Held.{Held}
 use Rattle.alu.specs.Bits.{low, top, digit}
 use Rattle.alu.specs.ConditionCodes.{add_v, sub_v, neg_v, add_flags, sub_flags, neg_flags, logic_flags, result_flags, arith_flags, keep_z}
 use Rattle.alu.specs.Arith.{sum, difference}
-use Rattle.alu.specs.declared.conditions.Condition.{Condition}
-use Rattle.alu.specs.Conditions.{condition_holds}
 use Rattle.alu.specs.Shifts.{left, right, turn, turns, shift_of}
 use Rattle.alu.proofs.Laws.{sum_lt, difference_lt, add_exact, sub_exact, neg_flags_lem}
 use Rattle.alu.proofs.Turns.{top_low, left_exact, right_exact}
@@ -29,12 +26,12 @@ use Rattle.step.specs.declared.forms.OneOp.{OneOp}
 use Rattle.step.specs.declared.forms.OneOp.TheVariants.{Clr, Neg, Negx, Not, Ext}
 use Rattle.step.specs.declared.forms.Count.TheVariants as Count
 use Rattle.step.specs.declared.forms.Form.{Form}
-use Rattle.step.specs.declared.forms.Form.TheVariants.{Two, Address, Quick, One, Shift, Bit, Chk, Stop}
+use Rattle.step.specs.declared.forms.Form.TheVariants.{Two, Address, Quick, One, Shift, Bit, Chk}
 use Rattle.step.specs.declared.forms.Step.{Step}
 use Rattle.step.specs.declared.steps.Outcome.{Outcome}
-use Rattle.step.specs.declared.steps.Outcome.TheVariants.{Done, Stopped}
+use Rattle.step.specs.declared.steps.Outcome.TheVariants.{Done}
 use Rattle.step.specs.declared.steps.Performed.{Performed}
-use Rattle.step.specs.Perform.{two_of, one_of, one_size, ruling_of, figure_of_two, stop_of, act_of, judged, perform_of}
+use Rattle.step.specs.Perform.{two_of, one_of, one_size, ruling_of, figure_of_two, act_of, judged, perform_of}
 
 abbrev pub word : ℕ
 word = 2 ^ 32
@@ -74,7 +71,6 @@ LegalForm (Shift op (Count.Small k) q) = UsedShift op × (k ≡ 1) × (q.0 < 8)
 LegalForm (Shift op (Count.Data r) q) = ⊥
 LegalForm (Bit op c q) = ⊥
 LegalForm (Chk p q) = ⊥
-LegalForm (Stop c) = ⊥
 
 abbrev pub Legal : Step → Type 0
 Legal k = (k.size ≡ Long) × LegalForm k.form
@@ -107,7 +103,6 @@ applied_form m (One op q) s = put s q.0 (m.one op (register s q.0) s.flags)
 applied_form m (Shift op k q) s = put s q.0 (m.shift op (register s q.0) s.flags)
 applied_form m (Bit op c q) s = s
 applied_form m (Chk p q) s = s
-applied_form m (Stop c) s = s
 
 abbrev pub applied : Alu → Step → State → State
 applied m k s = applied_form m k.form s
@@ -159,23 +154,11 @@ pub record Gives (o : Performed) (x : Outcome) (t : State) (c : ℕ) : Type 0 wh
   pub state : o.state ≡ t
   pub clocks : o.clocks ≡ c
 
--- a stop: its size is not looked at, and it has none where it is printed
-abbrev pub stop_step : Condition → Step
-stop_step c = record { size = Long; form = Stop c; line = 0 }
-
--- taken it ends the run; its figure is 10 taken and 8 not
-abbrev pub stopping : (taken : Bool) → Outcome
-stopping taken = cond taken Stopped Done
-
-abbrev pub stop_figure : (taken : Bool) → ℕ
-stop_figure taken = cond taken 10 8
-
 pub record Steps (f : State → Step → Performed) : Type 0 where
   pub alu : Alu
   pub figure : Step → ℕ
   pub does : (k : Step) (s : State) → Legal k → Gives (f s k) Done (applied alu k s) (figure k)
   pub promises : Promises alu
-  pub stops : (c : Condition) (s : State) → let taken = condition_holds c s.flags in Gives (f s (stop_step c)) (stopping taken) s (stop_figure taken)
 
 -- ---- the operations of the crate alu keep them
 
@@ -317,7 +300,6 @@ figure_of (One op q) = 6
 figure_of (Shift op k q) = 10
 figure_of (Bit op c q) = 0
 figure_of (Chk p q) = 0
-figure_of (Stop c) = 0
 
 two_figure : (op : TwoOp) → UsedTwo op → (s d : ℕ) (f : Flags) → figure_of_two op Long (two_of op Long s d f).clocks ≡ 8
 two_figure Add u s d f = refl
@@ -363,11 +345,6 @@ done (Shift op (Count.Small k) q) s h =
 done (Shift op (Count.Data r) q) s h = absurd h
 done (Bit op c q) s h = absurd h
 done (Chk p q) s h = absurd h
-done (Stop c) s h = absurd h
-
-stop_gives : (s : State) (taken : Bool) → Gives (stop_of s taken) (stopping taken) s (stop_figure taken)
-stop_gives s true = record { outcome = refl; state = refl; clocks = refl }
-stop_gives s false = record { outcome = refl; state = refl; clocks = refl }
 
 -- the step keeps them
 pub performs : Steps perform_of
@@ -376,5 +353,4 @@ performs = record {
   figure = λ k. figure_of k.form;
   does = λ k s h. subst⁻¹ (λ (size : Size). Gives (judged (ruling_of size k.form) s (act_of s size k.form)) Done (applied long k s) (figure_of k.form)) h.0 (done k.form s h.1);
   promises = kept;
-  stops = λ c s. stop_gives s (condition_holds c s.flags);
 }

@@ -3,11 +3,11 @@
 --     resumed_begun    a run begun and taken up is the run
 --     resumed_split    a run halted and taken up again is the run of both budgets
 -- They ask of a step that its figure has 32 bits: `perform_fits` of Figures.
-use Rattle.std.proofs.Common.{◌≡◌, ℕ, zero, suc, ◌+◌, ◌*◌, ◌^◌, ◌<◌, ◌≤◌, true, List, length, sym, ap, ◌∙◌, ap₂, mod-eq_of_lt, arith}
+use Rattle.std.proofs.Common.{◌≡◌, ℕ, zero, suc, ◌+◌, ◌*◌, ◌^◌, ◌<◌, ◌≤◌, true, List, sym, ap, ◌∙◌, ap₂, mod-eq_of_lt, arith}
 use Rattle.step.specs.declared.registers.State.{State}
 use Rattle.step.specs.declared.forms.Step.{Step}
 use Rattle.step.specs.declared.steps.Outcome.{Outcome}
-use Rattle.step.specs.declared.steps.Outcome.TheVariants.{Done, Trapped, Refused, Stopped}
+use Rattle.step.specs.declared.steps.Outcome.TheVariants.{Done, Trapped, Refused}
 use Rattle.step.specs.declared.steps.Performed.{Performed}
 use Rattle.step.specs.declared.runs.End.TheVariants as End
 use Rattle.step.specs.declared.runs.Ran.{Ran}
@@ -26,12 +26,11 @@ resumed_fits f l r b h k = wrapped_fits (after r.steps r.clocks (run_of f l r.st
 
 -- over any step function whose figures have 32 bits
 module _ (f : State → Step → Performed) (l : List Step) (small : (s : State) (k : Step) → (f s k).clocks < 2 ^ 32) where
-  clocks_followed : (o : Outcome) (w : Performed) (p line e b : ℕ) (on : State → ℕ → Ran) → w.clocks < 2 ^ 32 → ((t : State) (q : ℕ) → (on t q).clocks ≤ b * 2 ^ 32)
-      → (followed o w p line e on).clocks ≤ suc b * 2 ^ 32
-  clocks_followed Done w p line e b on k h = omega (arith, k, h w.state (suc p))
-  clocks_followed (Trapped x) w p line e b on k h = omega (arith, k)
-  clocks_followed (Refused x) w p line e b on k h = omega arith
-  clocks_followed Stopped w p line e b on k h = omega (arith, k, h w.state e)
+  clocks_followed : (o : Outcome) (w : Performed) (p line b : ℕ) (on : State → ℕ → Ran) → w.clocks < 2 ^ 32 → ((t : State) (q : ℕ) → (on t q).clocks ≤ b * 2 ^ 32)
+      → (followed o w p line on).clocks ≤ suc b * 2 ^ 32
+  clocks_followed Done w p line b on k h = omega (arith, k, h w.state (suc p))
+  clocks_followed (Trapped x) w p line b on k h = omega (arith, k)
+  clocks_followed (Refused x) w p line b on k h = omega arith
 
   clocks_met : (o : Spot) (s : State) (p b : ℕ) (on : Step → Ran) → ((k : Step) → (on k).clocks ≤ b * 2 ^ 32) → (met o s p on).clocks ≤ b * 2 ^ 32
   clocks_met past_end s p b on h = omega arith
@@ -42,7 +41,7 @@ module _ (f : State → Step → Performed) (l : List Step) (small : (s : State)
   pub run_clocks : (s : State) (p b : ℕ) → (run_of f l s p b).clocks ≤ b * 2 ^ 32
   unfolding run_of
   run_clocks s p zero = clocks_met (spot_of l p) s p 0 _ (λ k. omega arith)
-  run_clocks s p (suc b) = clocks_met (spot_of l p) s p (suc b) _ (λ k. clocks_followed (f s k).outcome (f s k) p k.line (length l) b _ (small s k) (λ t q. run_clocks t q b))
+  run_clocks s p (suc b) = clocks_met (spot_of l p) s p (suc b) _ (λ k. clocks_followed (f s k).outcome (f s k) p k.line b _ (small s k) (λ t q. run_clocks t q b))
 
   run_wrapped : (s : State) (p b : ℕ) → b < 2 ^ 32 → wrapped (run_of f l s p b) ≡ run_of f l s p b
   run_wrapped s p b h = wrapped_fits (run_of f l s p b) (omega (arith, h, run_few f l s p b)) (omega (arith, h, run_clocks s p b))

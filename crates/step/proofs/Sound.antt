@@ -15,8 +15,7 @@ use Rattle.alu.specs.declared.shift_rotate.ShiftOp.{ShiftOp}
 use Rattle.alu.specs.declared.shift_rotate.ShiftOp.TheVariants.{Asl, Asr, Lsl, Lsr, Rol, Ror, Roxl, Roxr}
 use Rattle.alu.specs.declared.bit_manip.BitOp.{BitOp}
 use Rattle.alu.specs.Bits.{bits_of, low, join, width_of}
-use Rattle.alu.specs.Answers.{accepted, class_of as checkClass}
-use Rattle.alu.specs.Conditions.{condition_holds}
+use Rattle.alu.specs.Answers.{class_of as checkClass}
 use Rattle.alu.specs.Arith.{chk_of}
 use Rattle.alu.specs.Shifts.{shift_of}
 use Rattle.alu.specs.Bitops.{bitop_of}
@@ -33,14 +32,14 @@ use Rattle.step.specs.declared.forms.Register.TheVariants as Register
 use Rattle.step.specs.declared.forms.Count.{Count}
 use Rattle.step.specs.declared.forms.Count.TheVariants as Count
 use Rattle.step.specs.declared.forms.Form.{Form}
-use Rattle.step.specs.declared.forms.Form.TheVariants.{Two, Address, Quick, One, Shift, Bit, Chk, Stop}
+use Rattle.step.specs.declared.forms.Form.TheVariants.{Two, Address, Quick, One, Shift, Bit, Chk}
 use Rattle.step.specs.declared.forms.Step.{Step}
 use Rattle.step.specs.declared.steps.Fault.{Fault}
 use Rattle.step.specs.declared.steps.Fault.TheVariants.{BadSmall, NoSuchSize, NoSuchRegister, StartPastEnd}
 use Rattle.step.specs.declared.steps.Outcome.TheVariants.{Refused}
 use Rattle.step.specs.Registers.{data_of, address_of, merged_of}
 use Rattle.step.specs.Perform.{Ruling, Sound, Faulty, number_of, refusal_of, there, register_there, count_there, within, count_within, not_byte, is_word, is_long, quick_size, one_size, ruling_of}
-use Rattle.step.specs.Perform.{two_of, on_address_of, quick_of, quick_address_of, one_of, register_value, count_value, outcome_of, stop_of, figure_in, act_of, judged, perform_form, perform_of, refused_with, trapped_with}
+use Rattle.step.specs.Perform.{two_of, on_address_of, quick_of, quick_address_of, one_of, register_value, count_value, outcome_of, figure_in, act_of, judged, perform_form, perform_of, refused_with, trapped_with}
 use Rattle.step.proofs.Laws.{no}
 
 -- ---- the number of a ruling
@@ -61,10 +60,6 @@ outcome_number Over = refl
 outcome_number Short = refl
 outcome_number Below = refl
 
-stop_number : (s : State) (taken : Bool) → (refused_with (stop_of s taken).outcome ≡ 0) × (trapped_with (stop_of s taken).outcome ≡ 0)
-stop_number s true = (refl, refl)
-stop_number s false = (refl, refl)
-
 act_number : (s : State) (size : Size) (form : Form) → refused_with (act_of s size form).outcome ≡ 0
 act_number s size (Two op r t) = refl
 act_number s size (Address op r t) = refl
@@ -74,7 +69,6 @@ act_number s size (One op t) = refl
 act_number s size (Shift op c t) = refl
 act_number s size (Bit op c t) = refl
 act_number s size (Chk r t) = outcome_number (chk_of size (data_of s r) (data_of s t) s.flags).check
-act_number s size (Stop c) = (stop_number s (condition_holds c s.flags)).0
 
 judged_number : (ruling : Ruling) (s : State) (size : Size) (form : Form) → refused_with (judged ruling s (act_of s size form)).outcome ≡ ruled_with ruling
 judged_number Sound s size form = act_number s size form
@@ -89,7 +83,6 @@ registers_of (One op t) = there t.0
 registers_of (Shift op c t) = count_there c && there t.0
 registers_of (Bit op c t) = count_there c && there t.0
 registers_of (Chk r t) = there r.0 && there t.0
-registers_of (Stop c) = true
 
 unfoldable pub size_of : Size → Form → Bool
 size_of size (Two op r t) = true
@@ -99,7 +92,6 @@ size_of size (One op t) = one_size op size
 size_of size (Shift op c t) = true
 size_of size (Bit op c t) = is_long size
 size_of size (Chk r t) = is_word size
-size_of size (Stop c) = true
 
 unfoldable pub small_of : Form → Bool
 small_of (Two op r t) = true
@@ -109,7 +101,6 @@ small_of (One op t) = true
 small_of (Shift op c t) = count_within 1 8 c
 small_of (Bit op c t) = count_within 0 31 c
 small_of (Chk r t) = true
-small_of (Stop c) = true
 
 ruling_is : (size : Size) (form : Form) → ruling_of size form ≡ refusal_of (registers_of form) (size_of size form) (small_of form)
 unfolding registers_of size_of small_of
@@ -120,7 +111,6 @@ ruling_is size (One op t) = refl
 ruling_is size (Shift op c t) = refl
 ruling_is size (Bit op c t) = refl
 ruling_is size (Chk r t) = refl
-ruling_is size (Stop c) = refl
 
 -- 3 where a register is not there, else 2 where the form hasn't that size, else 1 where a small number is out of range, else not refused
 pub perform_number : (s : State) (size : Size) (form : Form)
@@ -139,7 +129,6 @@ check_in s size (One op t) = Pass
 check_in s size (Shift op c t) = Pass
 check_in s size (Bit op c t) = Pass
 check_in s size (Chk r t) = (chk_of size (data_of s r) (data_of s t) s.flags).check
-check_in s size (Stop c) = Pass
 
 outcome_class : (check : Check) → trapped_with (outcome_of check) ≡ checkClass check
 outcome_class Pass = refl
@@ -156,7 +145,6 @@ act_class s size (One op t) = refl
 act_class s size (Shift op c t) = refl
 act_class s size (Bit op c t) = refl
 act_class s size (Chk r t) = outcome_class (chk_of size (data_of s r) (data_of s t) s.flags).check
-act_class s size (Stop c) = (stop_number s (condition_holds c s.flags)).1
 
 judged_class : (registers size small : Bool) (s : State) (k : Size) (form : Form)
     → trapped_with (judged (refusal_of registers size small) s (act_of s k form)).outcome ≡ cond (registers && size && small) (checkClass (check_in s k form)) 0
@@ -206,7 +194,7 @@ never_past s k e =
 
 -- ---- a sound step's operation is not refused
 
--- the answer that a step's operation gives; a stop has no operation of the crate alu, and this says what it leaves
+-- the answer that a step's operation gives
 abbrev pub answer_in : State → Size → Form → Answer
 answer_in s size (Two op r t) = two_of op size (data_of s r) (data_of s t) s.flags
 answer_in s size (Address op r t) = on_address_of op size (register_value s r) (address_of s t) s.flags
@@ -216,7 +204,6 @@ answer_in s size (One op t) = one_of op size (data_of s t) s.flags
 answer_in s size (Shift op c t) = shift_of op size (count_value s 64 c) (data_of s t) s.flags
 answer_in s size (Bit op c t) = bitop_of op size (count_value s 32 c) (data_of s t) s.flags
 answer_in s size (Chk r t) = (chk_of size (data_of s r) (data_of s t) s.flags).answer
-answer_in s size (Stop c) = accepted 0 s.flags (cond (condition_holds c s.flags) 10 8)
 
 -- its flags are the step's, and the step's figure comes of its figure
 pub act_answers : (s : State) (size : Size) (form : Form)
@@ -229,11 +216,6 @@ act_answers s size (One op t) = (refl, refl)
 act_answers s size (Shift op c t) = (refl, refl)
 act_answers s size (Bit op c t) = (refl, refl)
 act_answers s size (Chk r t) = (refl, refl)
-act_answers s size (Stop c) = go (condition_holds c s.flags)
-  where
-    go : (taken : Bool) → ((stop_of s taken).state.flags ≡ s.flags) × ((stop_of s taken).clocks ≡ cond taken 10 8)
-    go true = (refl, refl)
-    go false = (refl, refl)
 
 -- what passed: the second and the third test
 pub passed : (a b c : Bool) → refusal_of a b c ≡ Sound → (b ≡ true) × (c ≡ true)
@@ -317,7 +299,6 @@ never_refused s size (One op t) e = one_accepted op size (data_of s t) s.flags (
 never_refused s size (Shift op c t) e = shift_accepted op size (count_value s 64 c) (data_of s t) s.flags (count_few s c (passed (count_there c && there t.0) true (count_within 1 8 c) e).1)
 never_refused s size (Bit op c t) e = bit_accepted op size (count_value s 32 c) (data_of s t) s.flags (passed (count_there c && there t.0) (is_long size) (count_within 0 31 c) e).0
 never_refused s size (Chk r t) e = chk_accepted size (data_of s r) (data_of s t) s.flags (passed (there r.0 && there t.0) (is_word size) true e).0
-never_refused s size (Stop c) e = refl
 
 -- ---- a write
 

@@ -1,7 +1,7 @@
 -- The arms of a step: a test fails, the first of document 01's order 3, 2, 1, or an answer goes to a data register, to an address register, or to no
 -- register (CHK). s is the state before, p what the step would have made; the equations are what the tests and the calls on the way say. A count that fits and one that
 -- doesn't (`count_sound`, `count_faulty`); EXT written whole (`ext_step`); a run of one step is that step (`one_step`, `perform_step`). Assumes nothing.
-use Rattle.std.proofs.Common.{◌≡◌, ℕ, ◌/◌, ◌%◌, ◌^◌, Bool, true, false, cond, ◌&&◌, List, [], ◌∷◌, set, sym, refl, ap, ◌∙◌, ap₂, mod-eq_of_lt, arith}
+use Rattle.std.proofs.Common.{◌≡◌, ℕ, ◌/◌, ◌%◌, ◌^◌, Bool, true, false, ◌&&◌, List, [], ◌∷◌, set, sym, refl, ap, ◌∙◌, ap₂, mod-eq_of_lt, arith}
 use mathlib.Core.Bool.{and-true}
 use Rattle.alu.specs.declared.types.Size.{Size}
 use Rattle.alu.specs.declared.types.Size.TheVariants.{Byte, Word, Long}
@@ -22,7 +22,7 @@ use Rattle.step.specs.declared.steps.Came.{Came}
 use Rattle.step.specs.declared.steps.Came.TheVariants as How
 use Rattle.step.specs.declared.steps.Fault.{Fault}
 use Rattle.step.specs.declared.steps.Outcome.{Outcome}
-use Rattle.step.specs.declared.steps.Outcome.TheVariants.{Done, Trapped, Refused, Stopped}
+use Rattle.step.specs.declared.steps.Outcome.TheVariants.{Done, Trapped, Refused}
 use Rattle.step.specs.declared.steps.Performed.{Performed}
 use Rattle.step.specs.declared.steps.Acted.{Acted}
 use Rattle.step.specs.declared.steps.Counted.{Counted}
@@ -30,11 +30,11 @@ use Rattle.step.specs.declared.runs.End.TheVariants as End
 use Rattle.step.specs.declared.runs.Left.{Left}
 use Rattle.step.specs.declared.runs.Ran.{Ran}
 use Rattle.step.specs.Registers.{data_of, merged_of}
-use Rattle.step.specs.Perform.{Ruling, Sound, refusal_of, there, count_there, count_within, not_byte, to_data, to_address, outcome_of, checked_of, stop_of, timed, judged, perform_of}
+use Rattle.step.specs.Perform.{Ruling, Sound, refusal_of, there, count_there, count_within, not_byte, to_data, to_address, outcome_of, checked_of, timed, judged, perform_of}
 use Rattle.step.specs.Run.{ends, followed, run_of}
 use Rattle.step.specs.Lent.{held, ran_in}
-use Rattle.step.specs.Course.{came_out, leaving, said_of, unchanged_of, refused_of, counted_of, count_fault, outcome_from}
-use Rattle.step.proofs.Laws.{no, run_end, run_none, run_step}
+use Rattle.step.specs.Course.{came_out, leaving, said_of, refused_of, counted_of, count_fault, outcome_from}
+use Rattle.step.proofs.Laws.{no, run_end, run_step}
 use Rattle.step.proofs.Sound.{refused_free}
 use Rattle.step.proofs.Figures.{perform_fits}
 
@@ -124,39 +124,30 @@ module _ (s : State) {w : Ruling} (is : w ≡ Sound) where
       → leaving d s.a r ≡ judged w s (to_data s size t (ext_of size (data_of s t) s.flags))
   ext_step size t e went answers = written size t went answers (ap (λ (x : Answer). x.result) answers ∙ ext_whole size (data_of s t) s.flags e)
 
--- a stop, which is refused by no test
-pub stop_step_lem : (s : State) (taken : Bool) {r : Acted} {holds : Bool} → r ≡ unchanged_of (cond taken How.Stopped How.Done) s.flags (cond taken 10 8) → holds ≡ taken
-    → leaving s.d s.a r ≡ timed (λ k. k) (stop_of s holds)
-stop_step_lem s true said e = ap (leaving s.d s.a) said ∙ ap (λ (t : Bool). timed (λ k. k) (stop_of s t)) (sym e)
-stop_step_lem s false said e = ap (leaving s.d s.a) said ∙ ap (λ (t : Bool). timed (λ k. k) (stop_of s t)) (sym e)
+-- ---- a run of one step is that step
 
--- ---- a run of one step, with the same step behind it, is that step
-
-one_followed : (o : Outcome) (p : Performed) (line : ℕ) (on : State → ℕ → Ran) → ((x : Fault) → o ≡ Refused x → p.clocks ≡ 0)
-    → on p.state 1 ≡ ends End.Budget p.state 1 → on p.state 2 ≡ ends End.Finished p.state 2
-    → let r = followed o p 0 line 2 on in (r.state ≡ p.state) × ((outcome_from r.end ≡ o) × (r.clocks ≡ p.clocks))
-one_followed Done p line on free spent at-end = rw spent (refl, (refl, omega arith))
-one_followed (Trapped trap) p line on free spent at-end = (refl, (refl, omega arith))
-one_followed (Refused fault) p line on free spent at-end = (refl, (refl, sym (free fault refl)))
-one_followed Stopped p line on free spent at-end = rw at-end (refl, (refl, omega arith))
+one_followed : (o : Outcome) (p : Performed) (line : ℕ) (on : State → ℕ → Ran) → ((x : Fault) → o ≡ Refused x → p.clocks ≡ 0) → on p.state 1 ≡ ends End.Finished p.state 1
+    → let r = followed o p 0 line on in (r.state ≡ p.state) × ((outcome_from r.end ≡ o) × (r.clocks ≡ p.clocks))
+one_followed Done p line on free at-end = rw at-end (refl, (refl, omega arith))
+one_followed (Trapped trap) p line on free at-end = (refl, (refl, omega arith))
+one_followed (Refused fault) p line on free at-end = (refl, (refl, sym (free fault refl)))
 
 pub one_step : (s : State) (k : Step)
-    → let r = run_of perform_of (k ∷ k ∷ []) s 0 1 in (r.state ≡ (perform_of s k).state) × ((outcome_from r.end ≡ (perform_of s k).outcome) × (r.clocks ≡ (perform_of s k).clocks))
+    → let r = run_of perform_of (k ∷ []) s 0 1 in (r.state ≡ (perform_of s k).state) × ((outcome_from r.end ≡ (perform_of s k).outcome) × (r.clocks ≡ (perform_of s k).clocks))
 one_step s k =
-    let l = k ∷ k ∷ [] in
-    rw (run_step perform_of l s 0 0 k refl)
-    (one_followed (perform_of s k).outcome (perform_of s k) k.line (λ t q. run_of perform_of l t q 0) (refused_free s k) (run_none perform_of l (perform_of s k).state 1 k refl) (run_end perform_of l (perform_of s k).state 2 0 refl))
+    rw (run_step perform_of (k ∷ []) s 0 0 k refl)
+    (one_followed (perform_of s k).outcome (perform_of s k) k.line (λ t q. run_of perform_of (k ∷ []) t q 0) (refused_free s k) (run_end perform_of (k ∷ []) (perform_of s k).state 1 0 refl))
 
 -- what such a run says, its figure in 32 bits
 abbrev one_of : Ran → Performed
 one_of r = record { outcome = outcome_from r.end; state = r.state; clocks = r.clocks % 2 ^ 32 }
 
-one_performed : (s : State) (k : Step) → one_of (run_of perform_of (k ∷ k ∷ []) s 0 1) ≡ perform_of s k
+one_performed : (s : State) (k : Step) → one_of (run_of perform_of (k ∷ []) s 0 1) ≡ perform_of s k
 one_performed s k =
     let is = one_step s k in
     rw (is.0, is.1.0, is.1.1, mod-eq_of_lt (perform_fits s k))
 
-pub perform_step : (s : State) (k : Step) {left : Left} {d a : List ℕ} {o : Outcome} → o ≡ outcome_from left.end → ran_in left d a ≡ run_of perform_of (k ∷ k ∷ []) s 0 1
+pub perform_step : (s : State) (k : Step) {left : Left} {d a : List ℕ} {o : Outcome} → o ≡ outcome_from left.end → ran_in left d a ≡ run_of perform_of (k ∷ []) s 0 1
     → record { outcome = o; state = held d a left.flags; clocks = left.clocks % 2 ^ 32 } ≡ perform_of s k
 perform_step s k {left = left} {d = d} {a = a} comes ran =
     ap {B = Performed} (λ (o : Outcome). record { outcome = o; state = held d a left.flags; clocks = left.clocks % 2 ^ 32 }) comes ∙ (ap one_of ran ∙ one_performed s k)

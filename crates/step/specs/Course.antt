@@ -17,7 +17,7 @@ use Rattle.step.specs.declared.steps.Fault.{Fault}
 use Rattle.step.specs.declared.steps.Fault.TheVariants.{BadSmall, NoSuchSize, NoSuchRegister, StartPastEnd}
 use Rattle.step.specs.declared.steps.Trap.TheVariants.{Over, Short, Below}
 use Rattle.step.specs.declared.steps.Outcome.{Outcome}
-use Rattle.step.specs.declared.steps.Outcome.TheVariants.{Done, Trapped, Refused, Stopped}
+use Rattle.step.specs.declared.steps.Outcome.TheVariants.{Done, Trapped, Refused}
 use Rattle.step.specs.declared.steps.Performed.{Performed}
 use Rattle.step.specs.declared.runs.End.{End}
 use Rattle.step.specs.declared.runs.End.TheVariants as End
@@ -39,13 +39,11 @@ came_out How.BadSmall = Refused BadSmall
 came_out How.NoSuchSize = Refused NoSuchSize
 came_out How.NoSuchRegister = Refused NoSuchRegister
 came_out How.StartPastEnd = Refused StartPastEnd
-came_out How.Stopped = Stopped
 
 abbrev pub is_done : Outcome → Bool
 is_done Done = true
 is_done (Trapped trap) = false
 is_done (Refused fault) = false
-is_done Stopped = false
 
 -- the registers that a step leaves, and what it says beside them
 abbrev pub leaving : (d a : List ℕ) → Acted → Performed
@@ -54,12 +52,8 @@ leaving d a r = record { outcome = came_out r.came; state = held d a r.flags; cl
 abbrev pub said_of : Came → Answer → Acted
 said_of came answer = record { came = came; flags = answer.flags; clocks = answer.clocks }
 
--- a step that changes nothing
-abbrev pub unchanged_of : Came → Flags → (clocks : ℕ) → Acted
-unchanged_of came f clocks = record { came = came; flags = f; clocks = clocks }
-
 abbrev pub refused_of : Came → Flags → Acted
-refused_of came f = unchanged_of came f 0
+refused_of came f = record { came = came; flags = f; clocks = 0 }
 
 -- a shift's count or a bit's number: whether it may be, a register that is there or a small number in range, and its value
 abbrev pub counted_of : (least most modulus : ℕ) → State → Count → Counted
@@ -76,22 +70,22 @@ abbrev pub course_of : Bool → Came → (next clocks : ℕ) → Flags → Cours
 course_of going came next clocks f = record { going = going; came = came; next = next; clocks = clocks; flags = f }
 
 -- the place that a run doesn't go beyond: no more steps than stand from its start to the end, and no more than the budget
-abbrev pub limit_of : (len start budget : ℕ) → ℕ
-limit_of len start budget = start + min (len - start) budget
+abbrev pub stop_of : (len start budget : ℕ) → ℕ
+stop_of len start budget = start + min (len - start) budget
 
-abbrev pub begin_of : (len start limit : ℕ) → Flags → Course
-begin_of len start limit f = cond (nat_le start len) (course_of (nat_lt start limit) How.Done start 0 f) (course_of false How.StartPastEnd start 0 f)
+abbrev pub begin_of : (len start stop : ℕ) → Flags → Course
+begin_of len start stop f = cond (nat_le start len) (course_of (nat_lt start stop) How.Done start 0 f) (course_of false How.StartPastEnd start 0 f)
 
 -- the step at the next place came out so, with this figure and these flags
-abbrev pub turned : (limit : ℕ) → Course → Came → (clocks : ℕ) → Flags → Course
-turned limit on came clocks f = course_of (is_done (came_out came) && nat_lt (on.next + 1) limit) came (on.next + 1) (on.clocks + clocks) f
+abbrev pub turned : (stop : ℕ) → Course → Came → (clocks : ℕ) → Flags → Course
+turned stop on came clocks f = course_of (is_done (came_out came) && nat_lt (on.next + 1) stop) came (on.next + 1) (on.clocks + clocks) f
 
 -- the step was performed as p: the registers d and a, and where the run stands then
-pub record Advanced (limit : ℕ) (on : Course) (p : Performed) (d a : List ℕ) (r : Course) : Type 0 where
+pub record Advanced (stop : ℕ) (on : Course) (p : Performed) (d a : List ℕ) (r : Course) : Type 0 where
   pub data_registers : d ≡ p.state.d
   pub address_registers : a ≡ p.state.a
   pub outcome : came_out r.came ≡ p.outcome
-  pub course : r ≡ turned limit on r.came p.clocks p.state.flags
+  pub course : r ≡ turned stop on r.came p.clocks p.state.flags
 
 -- what stands at a place that a listing has not
 abbrev pub nowhere : Step
@@ -108,17 +102,15 @@ stood_at NoSuchSize next = next - 1
 stood_at NoSuchRegister next = next - 1
 stood_at StartPastEnd next = next
 
--- how a run ends, where it would go on, and the place behind the last step that counts, if `next` is the place behind the last step, which came out so and
--- is of this text line
+-- how a run ends and where it would go on, if `next` is the place behind the last step, which came out so and is of this text line
 abbrev pub halted_of : Outcome → (len next line : ℕ) → Halted
-halted_of Done len next line = record { end = end_at len next; next = next; behind = next }
-halted_of (Trapped trap) len next line = record { end = End.Trapped trap (next - 1) line; next = next; behind = next }
-halted_of (Refused fault) len next line = record { end = End.Refused fault (stood_at fault next) line; next = stood_at fault next; behind = stood_at fault next }
-halted_of Stopped len next line = record { end = End.Finished; next = len; behind = next }
+halted_of Done len next line = record { end = end_at len next; next = next }
+halted_of (Trapped trap) len next line = record { end = End.Trapped trap (next - 1) line; next = next }
+halted_of (Refused fault) len next line = record { end = End.Refused fault (stood_at fault next) line; next = stood_at fault next }
 
--- the outcome of a step, by the end of a run of it with the same step behind it: only a stop that is taken comes to the listing's end
+-- the outcome of a run of one step
 abbrev pub outcome_from : End → Outcome
-outcome_from End.Finished = Stopped
+outcome_from End.Finished = Done
 outcome_from End.Budget = Done
 outcome_from (End.Trapped trap place line) = Trapped trap
 outcome_from (End.Refused fault place line) = Refused fault
@@ -127,14 +119,14 @@ outcome_from (End.Refused fault place line) = Refused fault
 abbrev pub left_of : (len start : ℕ) → Course → (line : ℕ) → Left
 left_of len start on line =
     let halt = halted_of (came_out on.came) len on.next line in
-    record { end = halt.end; next = halt.next; steps = halt.behind - start; clocks = on.clocks; flags = on.flags }
+    record { end = halt.end; next = halt.next; steps = halt.next - start; clocks = on.clocks; flags = on.flags }
 
 -- a step can be done: one stands before the run's last place, and the sum of the figures has room for those that do
-pub record Ready (limit : ℕ) (on : Course) : Type 0 where
-  pub inside : on.next < limit
-  pub room : on.clocks + (limit - on.next) * 2 ^ 32 < 2 ^ 64
+pub record Ready (stop : ℕ) (on : Course) : Type 0 where
+  pub inside : on.next < stop
+  pub room : on.clocks + (stop - on.next) * 2 ^ 32 < 2 ^ 64
 
 -- the steps that were taken can be counted in 32 bits
 pub record Halts (len start : ℕ) (on : Course) (line : ℕ) : Type 0 where
-  pub from : start ≤ (halted_of (came_out on.came) len on.next line).behind
-  pub few : (halted_of (came_out on.came) len on.next line).behind < start + 2 ^ 32
+  pub from : start ≤ (left_of len start on line).next
+  pub few : (left_of len start on line).next < start + 2 ^ 32

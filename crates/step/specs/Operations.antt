@@ -1,7 +1,7 @@
--- The thirty operations of document 01's forms table, and behind them the stop of document 02, item 5, as steps are numbered and printed: one list of
--- rows, and the place of a row is the number of its operation (`places` and `stands` of proofs/Operations). `alu_call` goes by the numbers of the thirty
--- (`same_table` of recipe_calls/proofs/Agree). Assumes nothing.
-use Rattle.std.specs.Prelude.{ℕ, Bool, true, false, List, [], ◌∷◌, map, get_or, slice_index_or}
+-- The thirty operations of document 01's forms table, as steps are numbered and printed: one list of rows, and the place of a row is the number of its
+-- operation (`places` and `stands` of proofs/Operations). `alu_call` goes by the same numbers (`same_table` of recipe_calls/proofs/Agree). Assumes
+-- nothing.
+use Rattle.std.specs.Prelude.{ℕ, List, [], ◌∷◌, map, get_or, slice_index_or}
 use Prim.Native.String.{String}
 use Rattle.alu.specs.declared.shift_rotate.ShiftOp.TheVariants.{Asl, Asr, Lsl, Lsr, Rol, Ror, Roxl, Roxr}
 use Rattle.alu.specs.declared.bit_manip.BitOp.TheVariants.{Btst, Bset, Bclr, Bchg}
@@ -13,7 +13,7 @@ use Rattle.step.specs.declared.forms.Register.TheVariants as Register
 use Rattle.step.specs.declared.forms.Form.{Form}
 use Rattle.step.specs.declared.forms.Form.TheVariants as Form
 use Rattle.step.specs.declared.forms.Operation.{Operation}
-use Rattle.step.specs.declared.forms.Operation.TheVariants.{Two, Address, Quick, QuickAddress, One, Shift, Bit, Chk, Stop}
+use Rattle.step.specs.declared.forms.Operation.TheVariants.{Two, Address, Quick, QuickAddress, One, Shift, Bit, Chk}
 use Rattle.step.specs.declared.forms.Found.{Found}
 use Rattle.step.specs.declared.forms.Found.TheVariants.{Is, NoOperation}
 
@@ -57,8 +57,7 @@ operations =
     row (Bit Bset) "BSET" ∷
     row (Bit Bclr) "BCLR" ∷
     row (Bit Bchg) "BCHG" ∷
-    row Chk "CHK" ∷
-    row Stop "STOP" ∷ []
+    row Chk "CHK" ∷ []
 
 -- the operation of a number, if there is a row of that place
 abbrev pub operation_at : ℕ → Found
@@ -96,7 +95,6 @@ operation_number (Bit Bset) = 0x1a
 operation_number (Bit Bclr) = 0x1b
 operation_number (Bit Bchg) = 0x1c
 operation_number Chk = 0x1d
-operation_number Stop = 0x1e
 
 -- its name there. (Each has a row, so that the one past the table is never met)
 abbrev pub operation_name : Operation → String
@@ -112,15 +110,3 @@ operation_of (Form.One op t) = One op
 operation_of (Form.Shift op c t) = Shift op
 operation_of (Form.Bit op c t) = Bit op
 operation_of (Form.Chk r t) = Chk
-operation_of (Form.Stop c) = Stop
-
--- a stop alone has no size
-abbrev pub is_stop : Form → Bool
-is_stop (Form.Two op r t) = false
-is_stop (Form.Address op r t) = false
-is_stop (Form.Quick op k t) = false
-is_stop (Form.One op t) = false
-is_stop (Form.Shift op c t) = false
-is_stop (Form.Bit op c t) = false
-is_stop (Form.Chk r t) = false
-is_stop (Form.Stop c) = true

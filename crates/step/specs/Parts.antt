@@ -1,32 +1,13 @@
--- How far a run came, and a run that is halted and continued: what the laws of a run speak of (proofs/Laws), and demand 3 with them. No contract of this crate names anything
+-- A run that is halted and continued: what the laws of a run speak of (proofs/Laws), and demand 3 with them. No contract of this crate names anything
 -- of this page. Assumes nothing.
-use Rattle.std.specs.Prelude.{◌≡◌, ℕ, ◌+◌, Bool, true, false, ◌⊎◌, List, [], ◌∷◌, length}
+use Rattle.std.specs.Prelude.{◌≡◌, ℕ, ◌+◌, Bool, true, false, List, [], ◌∷◌}
 use Rattle.step.specs.declared.registers.State.{State}
 use Rattle.step.specs.declared.forms.Step.{Step}
-use Rattle.step.specs.declared.steps.Outcome.TheVariants.{Stopped}
 use Rattle.step.specs.declared.steps.Performed.{Performed}
 use Rattle.step.specs.declared.runs.End.{End}
 use Rattle.step.specs.declared.runs.End.TheVariants as End
 use Rattle.step.specs.declared.runs.Ran.{Ran}
-use Rattle.step.specs.Run.{here, spot_of, after, run_of}
-
--- A run from place p that came to r took a stop: the last step done stopped in the state that the run had there, and left r's. The run went to the listing's
--- end, and is Finished
-pub record TookStop (f : State → Step → Performed) (l : List Step) (p : ℕ) (r : Ran) : Type 0 where
-  pub place : ℕ
-  pub stop : Step
-  pub state : State
-  pub there : spot_of l place ≡ here stop
-  pub taken : (f state stop).outcome ≡ Stopped
-  pub left : (f state stop).state ≡ r.state
-  pub last : p + r.steps ≡ place + 1
-  pub finished : r.end ≡ End.Finished
-  pub next : r.next ≡ length l
-
--- The steps done are the next place less the start place (document 01), or a stop was taken: then they are the stop's place less the start place, and one
--- (document 02, item 5). `run_next` of proofs/Laws
-abbrev pub NextPlace : (State → Step → Performed) → List Step → (p : ℕ) → Ran → Type 0
-NextPlace f l p r = (r.next ≡ p + r.steps) ⊎ TookStop f l p r
+use Rattle.step.specs.Run.{after, run_of}
 
 -- neither trapped nor refused
 abbrev pub goes_on : End → Bool

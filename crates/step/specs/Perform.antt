@@ -1,5 +1,5 @@
 -- One step: it is refused, or it reads its operands, and writes a register and the flags (CHK: the flags alone). Document 01, "Steps and runs", its
--- forms table and its refusal numbers; six clock figures by document 02, item 3; a stop by item 5. The operations' answers are those of the crate alu. s is the state
+-- forms table and its refusal numbers; six clock figures by document 02, item 3. The operations' answers are those of the crate alu. s is the state
 -- before; of a form, r is the source register and t the destination. Assumes nothing.
 use Rattle.std.specs.Prelude.{ℕ, ◌%◌, Bool, true, false, cond, ◌&&◌, nat_le, nat_lt}
 use Rattle.alu.specs.declared.types.Size.{Size}
@@ -15,7 +15,6 @@ use Rattle.alu.specs.Answers.{figure}
 use Rattle.alu.specs.Arith.{add_of, addx_of, sub_of, subx_of, cmp_of, neg_of, negx_of, addq_of, subq_of, addq_address_of, subq_address_of, adda_of, suba_of, cmpa_of, clr_of, not_of, ext_of, chk_of}
 use Rattle.alu.specs.Shifts.{shift_of}
 use Rattle.alu.specs.Bitops.{bitop_of}
-use Rattle.alu.specs.Conditions.{condition_holds}
 use Rattle.step.specs.declared.registers.State.{State}
 use Rattle.step.specs.declared.registers.D.{D}
 use Rattle.step.specs.declared.registers.A.{A}
@@ -32,14 +31,14 @@ use Rattle.step.specs.declared.forms.Register.TheVariants as Register
 use Rattle.step.specs.declared.forms.Count.{Count}
 use Rattle.step.specs.declared.forms.Count.TheVariants as Count
 use Rattle.step.specs.declared.forms.Form.{Form}
-use Rattle.step.specs.declared.forms.Form.TheVariants.{Two, Address, Quick, One, Shift, Bit, Chk, Stop}
+use Rattle.step.specs.declared.forms.Form.TheVariants.{Two, Address, Quick, One, Shift, Bit, Chk}
 use Rattle.step.specs.declared.forms.Step.{Step}
 use Rattle.step.specs.declared.steps.Fault.{Fault}
 use Rattle.step.specs.declared.steps.Fault.TheVariants.{BadSmall, NoSuchSize, NoSuchRegister, StartPastEnd}
 use Rattle.step.specs.declared.steps.Trap.{Trap}
 use Rattle.step.specs.declared.steps.Trap.TheVariants.{Over as TrapOver, Short as TrapShort, Below as TrapBelow}
 use Rattle.step.specs.declared.steps.Outcome.{Outcome}
-use Rattle.step.specs.declared.steps.Outcome.TheVariants.{Done, Trapped, Refused, Stopped}
+use Rattle.step.specs.declared.steps.Outcome.TheVariants.{Done, Trapped, Refused}
 use Rattle.step.specs.declared.steps.Performed.{Performed}
 use Rattle.step.specs.Registers.{data_of, address_of, put_data, put_address, put_flags}
 
@@ -125,8 +124,6 @@ ruling_of size (One op t) = refusal_of (there t.0) (one_size op size) true
 ruling_of size (Shift op c t) = refusal_of (count_there c && there t.0) true (count_within 1 8 c)
 ruling_of size (Bit op c t) = refusal_of (count_there c && there t.0) (is_long size) (count_within 0 31 c)
 ruling_of size (Chk r t) = refusal_of (there r.0 && there t.0) (is_word size) true
--- a stop is never refused, and its size is not looked at
-ruling_of size (Stop c) = Sound
 
 -- ---- the operations' answers, of the values of source and destination and of the flags
 
@@ -191,11 +188,6 @@ outcome_of Below = Trapped TrapBelow
 abbrev pub checked_of : State → Checked → Performed
 checked_of s c = concluded (outcome_of c.check) s c.answer
 
--- A stop changes no register and no flag. If its condition holds it is taken, and has the figure 10; if not it is done, with the figure 8
-abbrev pub stop_of : State → (taken : Bool) → Performed
-stop_of s true = record { outcome = Stopped; state = s; clocks = 10 }
-stop_of s false = record { outcome = Done; state = s; clocks = 8 }
-
 -- all operands are read in the state s, before anything is written. The figure is the operation's
 abbrev pub operated_of : State → Size → Form → Performed
 operated_of s size (Two op r t) = to_data s size t (two_of op size (data_of s r) (data_of s t) s.flags)
@@ -206,7 +198,6 @@ operated_of s size (One op t) = to_data s size t (one_of op size (data_of s t) s
 operated_of s size (Shift op c t) = to_data s size t (shift_of op size (count_value s 64 c) (data_of s t) s.flags)
 operated_of s size (Bit op c t) = to_data s size t (bitop_of op size (count_value s 32 c) (data_of s t) s.flags)
 operated_of s size (Chk r t) = checked_of s (chk_of size (data_of s r) (data_of s t) s.flags)
-operated_of s size (Stop c) = stop_of s (condition_holds c s.flags)
 
 -- ---- its clock figure
 
@@ -234,7 +225,6 @@ figure_in s size (One op t) operation = operation
 figure_in s size (Shift op c t) operation = operation
 figure_in s size (Bit op c t) operation = figure_of_bit op (count_value s 32 c) operation
 figure_in s size (Chk r t) operation = operation
-figure_in s size (Stop c) operation = operation
 
 -- what the operation did, with the figure that it has in the step
 abbrev pub timed : (inStep : ℕ → ℕ) → Performed → Performed
@@ -261,10 +251,8 @@ abbrev pub refused_with : Outcome → ℕ
 refused_with Done = 0
 refused_with (Trapped trap) = 0
 refused_with (Refused fault) = number_of fault
-refused_with Stopped = 0
 
 abbrev pub trapped_with : Outcome → ℕ
 trapped_with Done = 0
 trapped_with (Trapped trap) = class_of trap
 trapped_with (Refused fault) = 0
-trapped_with Stopped = 0

@@ -1,11 +1,11 @@
--- A run of a listing: document 01, "Steps and runs", with document 02, items 4 and 5. It is defined by recursion on the budget, from a place, over any step
+-- A run of a listing: document 01, "Steps and runs", with document 02, item 4. It is defined by recursion on the budget, from a place, over any step
 -- function f. The tests stand in document 01's order: past the end; at the end; the budget spent; then the step. Assumes nothing.
-use Rattle.std.specs.Prelude.{ℕ, zero, suc, ◌+◌, ◌%◌, ◌^◌, List, [], ◌∷◌, length}
+use Rattle.std.specs.Prelude.{ℕ, zero, suc, ◌+◌, ◌%◌, ◌^◌, List, [], ◌∷◌}
 use Rattle.step.specs.declared.registers.State.{State}
 use Rattle.step.specs.declared.forms.Step.{Step}
 use Rattle.step.specs.declared.steps.Fault.TheVariants.{StartPastEnd}
 use Rattle.step.specs.declared.steps.Outcome.{Outcome}
-use Rattle.step.specs.declared.steps.Outcome.TheVariants.{Done, Trapped, Refused, Stopped}
+use Rattle.step.specs.declared.steps.Outcome.TheVariants.{Done, Trapped, Refused}
 use Rattle.step.specs.declared.steps.Performed.{Performed}
 use Rattle.step.specs.declared.runs.End.{End}
 use Rattle.step.specs.declared.runs.End.TheVariants as End
@@ -43,12 +43,11 @@ after n c r = record { end = r.end; state = r.state; next = r.next; steps = n + 
 
 -- The step at place p, of the text line n, was performed as o; its outcome stands first, to go by its cases. Done: it is counted, and the run goes on,
 -- from o's state and the place after p. A trap is counted and ends the run; the next place is after it. A refused step is not counted and is the next
--- place. Both hand on the place and the line. A stop that is taken is counted, and the run goes on at the listing's end e, where it is Finished
-abbrev pub followed : Outcome → Performed → (p n e : ℕ) → (on : State → ℕ → Ran) → Ran
-followed Done o p n e on = counted o.clocks (on o.state (suc p))
-followed (Trapped trap) o p n e on = counted o.clocks (ends (End.Trapped trap p n) o.state (suc p))
-followed (Refused fault) o p n e on = ends (End.Refused fault p n) o.state p
-followed Stopped o p n e on = counted o.clocks (on o.state e)
+-- place. Both hand on the place and the line
+abbrev pub followed : Outcome → Performed → (p n : ℕ) → (on : State → ℕ → Ran) → Ran
+followed Done o p n on = counted o.clocks (on o.state (suc p))
+followed (Trapped trap) o p n on = counted o.clocks (ends (End.Trapped trap p n) o.state (suc p))
+followed (Refused fault) o p n on = ends (End.Refused fault p n) o.state p
 
 -- the tests of a place; `on` is what a spent budget or the step makes of it. Past the end there is no line: 0
 abbrev pub met : Spot → State → (p : ℕ) → (on : Step → Ran) → Ran
@@ -60,7 +59,7 @@ met (here k) s p on = on k
 module _ (f : State → Step → Performed) (l : List Step) where
   unfoldable pub run_of : State → (p b : ℕ) → Ran
   run_of s p zero = met (spot_of l p) s p (λ k. ends End.Budget s p)
-  run_of s p (suc b) = met (spot_of l p) s p (λ k. followed (f s k).outcome (f s k) p k.line (length l) (λ t q. run_of t q b))
+  run_of s p (suc b) = met (spot_of l p) s p (λ k. followed (f s k).outcome (f s k) p k.line (λ t q. run_of t q b))
 
 -- steps modulo 2 ^ 32 and clocks modulo 2 ^ 64: the widths of the code's numbers
 abbrev pub wrapped : Ran → Ran

@@ -1,12 +1,11 @@
-// What a step may be: document 01's forms and document 02's stop, their operations, and the operations by number.
+// What a step may be: document 01's forms, their operations, and the operations by number.
 ghost use Rattle.std.specs.Prelude.{◌≡◌};
 ghost use Rattle.step.specs.declared.forms.Operation.TheVariants as Operation;
 ghost use Rattle.step.specs.Lines.{with_line};
-ghost use Rattle.step.specs.Operations.{operation_of, is_stop, operation_number, operation_at};
+ghost use Rattle.step.specs.Operations.{operation_of, operation_number, operation_at};
 
 use super::registers::{A, D};
 use alu::bit_manip::BitOp;
-use alu::conditions::Condition;
 use alu::shift_rotate::ShiftOp;
 use alu::types::Size;
 
@@ -57,8 +56,7 @@ pub enum Count {
     Data(D),
 }
 
-// The forms of document 01, source before destination, and a stop on a condition (document 02, item 5). No other operand kind can
-// be written.
+// The forms of document 01, source before destination. No other operand kind can be written.
 #[derive(Drop)]
 pub enum Form {
     Two(TwoOp, D, D),
@@ -68,7 +66,6 @@ pub enum Form {
     Shift(ShiftOp, Count, D),
     Bit(BitOp, Count, D),
     Chk(D, D),
-    Stop(Condition),
 }
 
 // `line` is the text line that a step comes from, 0 if it was given none. No test looks at it: it is printed, and a trap or a
@@ -100,7 +97,6 @@ pub enum Operation {
     Shift(ShiftOp),
     Bit(BitOp),
     Chk,
-    Stop,
 }
 
 // The operation of a number, if it names one.
@@ -124,23 +120,6 @@ pub fn operation_of(form: Form) -> Operation
         Form::Shift(op, _, _) => Operation::Shift(op),
         Form::Bit(op, _, _) => Operation::Bit(op),
         Form::Chk(_, _) => Operation::Chk,
-        Form::Stop(_) => Operation::Stop,
-    }
-}
-
-// Whether it is a stop. It alone has no size.
-pub fn is_stop(form: Form) -> bool
-    ensures { result ≡ is_stop form }
-{
-    match form {
-        Form::Two(_, _, _) => false,
-        Form::Address(_, _, _) => false,
-        Form::Quick(_, _, _) => false,
-        Form::One(_, _) => false,
-        Form::Shift(_, _, _) => false,
-        Form::Bit(_, _, _) => false,
-        Form::Chk(_, _) => false,
-        Form::Stop(_) => true,
     }
 }
 
@@ -178,7 +157,6 @@ pub fn operation_at(number: u8) -> Found
         0x1b => Found::Is(Operation::Bit(BitOp::Bclr)),
         0x1c => Found::Is(Operation::Bit(BitOp::Bchg)),
         0x1d => Found::Is(Operation::Chk),
-        0x1e => Found::Is(Operation::Stop),
         _ => Found::NoOperation,
     }
 }
@@ -262,6 +240,5 @@ pub fn number(operation: Operation) -> u8
         Operation::Shift(op) => shift_number(op),
         Operation::Bit(op) => bit_number(op),
         Operation::Chk => 0x1d,
-        Operation::Stop => 0x1e,
     }
 }

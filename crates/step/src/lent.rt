@@ -7,8 +7,7 @@ ghost use Rattle.step.specs.Lent.{performed, held, ran_in};
 use super::forms::Step;
 use super::registers::State;
 use super::runs::{
-    Left, Ran, SLOTS, advance, all_done, begin, left_off, limit_at, line_of, nowhere, place_before,
-    ran_of,
+    Left, Ran, SLOTS, advance, all_done, begin, left_off, nowhere, place_before, ran_of, stop_at,
 };
 use super::steps::{Outcome, perform};
 use alu::types::Flags;
@@ -45,15 +44,15 @@ pub fn run_in(
     ensures { ran_in result d.new a.new ≡ run_of perform_of listing.now (held d.old a.old flags) start budget }
 {
     let len = listing.len();
-    let limit = limit_at(len, start, budget);
-    let mut on = begin(len, start, limit, flags);
+    let stop = stop_at(len, start, budget);
+    let mut on = begin(len, start, stop, flags);
     while on.going {
-        on = advance(d, a, limit, on, listing[on.next]);
+        on = advance(d, a, stop, on, listing[on.next]);
     }
     let line = if all_done(on) {
         0
     } else {
-        line_of(fetch(listing, place_before(on.next), nowhere()))
+        fetch(listing, place_before(on.next), nowhere()).line
     };
     left_off(len, start, on, line)
 }
@@ -84,12 +83,12 @@ pub(crate) fn run_first(
     run_in(&listing[..len], d, a, flags, start, budget)
 }
 
-// A run of one step, with the same step behind it, so that only a stop that is taken comes to the listing's end.
+// A run of one step.
 pub(crate) fn run_one(step: Step, d: &mut [u32; 8], a: &mut [u32; 8], flags: Flags) -> Left
-    ensures { ran_in result d.new a.new ≡ run_of perform_of (step ∷ step ∷ []) (held d.old a.old flags) 0 1 }
+    ensures { ran_in result d.new a.new ≡ run_of perform_of (step ∷ []) (held d.old a.old flags) 0 1 }
 {
-    let two = [step, step];
-    run_in(&two, d, a, flags, 0, 1)
+    let one = [step; 1];
+    run_in(&one, d, a, flags, 0, 1)
 }
 
 // The step at a place of a listing; past the end, `other`.

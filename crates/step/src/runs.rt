@@ -4,7 +4,7 @@ ghost use Rattle.step.specs.Perform.{perform_of};
 ghost use Rattle.step.specs.declared.runs.End.TheVariants as End;
 ghost use Rattle.step.specs.Run.{ends, end_line, run_of, resumed_of};
 ghost use Rattle.step.specs.Lent.{held, ran_in};
-ghost use Rattle.step.specs.Course.{came_out, is_done, course_of, limit_of, begin_of, Advanced, end_at, stood_at, nowhere, halted_of, left_of, Ready, Halts};
+ghost use Rattle.step.specs.Course.{came_out, is_done, course_of, stop_of, begin_of, Advanced, end_at, stood_at, nowhere, halted_of, left_of, Ready, Halts};
 
 use super::forms::{Form, Step};
 use super::lent::run_first;
@@ -87,8 +87,8 @@ fn stands(going: bool, came: Came, next: usize, clocks: u64, flags: Flags) -> Co
 }
 
 // The place that a run does not go beyond: the end of the listing, or where its budget is spent.
-pub(crate) fn limit_at(len: usize, start: usize, budget: u32) -> usize
-    ensures { result ≡ limit_of len start budget }
+pub(crate) fn stop_at(len: usize, start: usize, budget: u32) -> usize
+    ensures { result ≡ stop_of len start budget }
 {
     if start < len {
         let rest = len - start;
@@ -113,18 +113,12 @@ pub(crate) fn nowhere() -> Step
     }
 }
 
-pub(crate) fn line_of(step: Step) -> u8
-    ensures { result ≡ step.line }
-{
-    step.line
-}
-
 // Where a run starts.
-pub(crate) fn begin(len: usize, start: usize, limit: usize, flags: Flags) -> Course
-    ensures { result ≡ begin_of len start limit flags }
+pub(crate) fn begin(len: usize, start: usize, stop: usize, flags: Flags) -> Course
+    ensures { result ≡ begin_of len start stop flags }
 {
     if start <= len {
-        stands(start < limit, Came::Done, start, 0, flags)
+        stands(start < stop, Came::Done, start, 0, flags)
     } else {
         stands(false, Came::StartPastEnd, start, 0, flags)
     }
@@ -135,12 +129,12 @@ pub(crate) fn begin(len: usize, start: usize, limit: usize, flags: Flags) -> Cou
 pub(crate) fn advance(
     d: &mut [u32; 8],
     a: &mut [u32; 8],
-    limit: usize,
+    stop: usize,
     on: Course,
     step: Step,
 ) -> Course
-    requires { Ready limit on }
-    ensures { Advanced limit on (perform_of (held d.old a.old on.flags) step) d.new a.new result }
+    requires { Ready stop on }
+    ensures { Advanced stop on (perform_of (held d.old a.old on.flags) step) d.new a.new result }
 {
     let before = on.flags;
     let size = step.size;
@@ -152,7 +146,7 @@ pub(crate) fn advance(
     let figure = acted.clocks as u64;
     let clocks = on.clocks + figure;
     if is_done(came) {
-        stands(next < limit, came, next, clocks, flags)
+        stands(next < stop, came, next, clocks, flags)
     } else {
         stands(false, came, next, clocks, flags)
     }
@@ -166,18 +160,17 @@ pub(crate) fn all_done(on: Course) -> bool
     is_done(came)
 }
 
-// How a run ends, where it would go on, and the place behind the last step that counts.
+// How a run ends, and where it would go on.
 #[derive(Drop)]
 struct Halted {
     end: End,
     next: usize,
-    behind: usize,
 }
 
-fn halt(end: End, next: usize, behind: usize) -> Halted
-    ensures { result ≡ record { end = end; next = next; behind = behind } }
+fn halt(end: End, next: usize) -> Halted
+    ensures { result ≡ record { end = end; next = next } }
 {
-    Halted { end, next, behind }
+    Halted { end, next }
 }
 
 // At a place at which a run takes no step more.
@@ -211,18 +204,17 @@ fn stood_at(fault: Fault, next: usize) -> usize
 }
 
 // `next` is the place behind the last step, which came out so and is of this text line. After a trap the run goes on there;
-// a refused step is itself the next place, and does not count; after a stop that is taken the next place is the listing's end.
+// a refused step is itself the next place.
 fn halted_after(outcome: Outcome, len: usize, next: usize, line: u8) -> Halted
     ensures { result ≡ halted_of outcome len next line }
 {
     match outcome {
-        Outcome::Done => halt(end_at(len, next), next, next),
-        Outcome::Trapped(trap) => halt(End::Trapped(trap, place_before(next), line), next, next),
+        Outcome::Done => halt(end_at(len, next), next),
+        Outcome::Trapped(trap) => halt(End::Trapped(trap, place_before(next), line), next),
         Outcome::Refused(fault) => {
             let at = stood_at(fault, next);
-            halt(End::Refused(fault, at, line), at, at)
+            halt(End::Refused(fault, at, line), at)
         }
-        Outcome::Stopped => halt(End::Finished, len, next),
     }
 }
 
@@ -235,7 +227,7 @@ pub(crate) fn left_off(len: usize, start: usize, on: Course, line: u8) -> Left
     let flags = on.flags;
     let halt = halted_after(outcome_of(came), len, on.next, line);
     let end = halt.end;
-    let taken = halt.behind - start;
+    let taken = halt.next - start;
     let steps = taken as u32;
     Left {
         end,

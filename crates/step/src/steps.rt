@@ -12,14 +12,13 @@ ghost use Rattle.step.specs.Perform.{number_of, class_of, register_there, count_
 ghost use Rattle.step.specs.Perform.{not_byte, is_word, is_long, on_address_of, quick_of, quick_address_of};
 ghost use Rattle.step.specs.Perform.{register_value, outcome_of, figure_of_bit, perform_form, perform_of};
 ghost use Rattle.step.specs.Lent.{held};
-ghost use Rattle.step.specs.Course.{came_out, is_done, leaving, said_of, unchanged_of, refused_of, counted_of, count_fault, outcome_from};
+ghost use Rattle.step.specs.Course.{came_out, is_done, leaving, said_of, refused_of, counted_of, count_fault, outcome_from};
 
 use super::forms::{AddressOp, Count, Form, OneOp, QuickOp, Register, Step, TwoOp};
 use super::lent::run_one;
 use super::registers::{A, D, State, merged, read, write};
 use super::runs::End;
 use alu::bit_manip::{BitOp, exec_bchg, exec_bclr, exec_bset, exec_btst};
-use alu::conditions::{Condition, holds};
 use alu::integer_arith::{
     exec_add, exec_adda, exec_addq, exec_addq_address, exec_addx, exec_chk, exec_clr, exec_cmp,
     exec_cmpa, exec_ext, exec_neg, exec_negx, exec_not, exec_sub, exec_suba, exec_subq,
@@ -47,13 +46,11 @@ pub enum Trap {
     Below,
 }
 
-// A stop that is taken is done, and the run goes to the listing's end.
 #[derive(Drop)]
 pub enum Outcome {
     Done,
     Trapped(Trap),
     Refused(Fault),
-    Stopped,
 }
 
 // What a step hands back: its outcome, the registers and flags after it, its clock figure.
@@ -75,7 +72,6 @@ pub(crate) enum Came {
     NoSuchSize,
     NoSuchRegister,
     StartPastEnd,
-    Stopped,
 }
 
 // A shift's count or a bit's number: whether it may be, and its value.
@@ -316,7 +312,6 @@ pub(crate) fn outcome_of(came: Came) -> Outcome
         Came::NoSuchSize => Outcome::Refused(Fault::NoSuchSize),
         Came::NoSuchRegister => Outcome::Refused(Fault::NoSuchRegister),
         Came::StartPastEnd => Outcome::Refused(Fault::StartPastEnd),
-        Came::Stopped => Outcome::Stopped,
     }
 }
 
@@ -327,7 +322,6 @@ pub(crate) fn is_done(came: Came) -> bool
         Came::Done => true,
         Came::Over | Came::Short | Came::Below => false,
         Came::BadSmall | Came::NoSuchSize | Came::NoSuchRegister | Came::StartPastEnd => false,
-        Came::Stopped => false,
     }
 }
 
@@ -348,9 +342,9 @@ fn said(came: Came, answer: Answer) -> Acted
     }
 }
 
-// What a step says that changes nothing: one that is refused, with the figure 0, or a stop.
-fn unchanged(came: Came, flags: Flags, clocks: u32) -> Acted
-    ensures { result ≡ unchanged_of came flags clocks }
+// What a refused step says: it changes nothing.
+fn refused(came: Came, flags: Flags) -> Acted
+    ensures { result ≡ refused_of came flags }
 {
     Acted {
         came,
@@ -361,14 +355,8 @@ fn unchanged(came: Came, flags: Flags, clocks: u32) -> Acted
             v: flags.v,
             c: flags.c,
         },
-        clocks,
+        clocks: 0,
     }
-}
-
-fn refused(came: Came, flags: Flags) -> Acted
-    ensures { result ≡ refused_of came flags }
-{
-    unchanged(came, flags, 0)
 }
 
 // The result goes to a data register, at the step's size; `old` is what the register holds.
@@ -562,17 +550,6 @@ fn step_chk(d: &[u32; 8], flags: Flags, size: Size, s: D, t: D) -> Acted
     }
 }
 
-// STOP, on a condition of N, Z, V and C. No register or flag is changed.
-fn step_stop(flags: Flags, condition: Condition) -> Acted
-    ensures { (d a : List ℕ) (size : Size) → leaving d a result ≡ perform_form (held d a flags) size (Form.Stop condition) }
-{
-    if holds(condition, flags) {
-        unchanged(Came::Stopped, flags, 10)
-    } else {
-        unchanged(Came::Done, flags, 8)
-    }
-}
-
 // One step on registers that are lent. A refused one changes nothing.
 pub(crate) fn perform_on(
     d: &mut [u32; 8],
@@ -594,16 +571,15 @@ pub(crate) fn perform_on(
         Form::Shift(op, c, t) => step_shift(d, flags, size, op, c, t),
         Form::Bit(op, c, t) => step_bit(d, flags, size, op, c, t),
         Form::Chk(s, t) => step_chk(d, flags, size, s, t),
-        Form::Stop(condition) => step_stop(flags, condition),
     }
 }
 
-// The outcome of a step, by the end of `run_one`.
+// The outcome of a run of one step.
 fn outcome_from(end: End) -> Outcome
     ensures { result ≡ outcome_from end }
 {
     match end {
-        End::Finished => Outcome::Stopped,
+        End::Finished => Outcome::Done,
         End::Budget => Outcome::Done,
         End::Trapped(trap, _, _) => Outcome::Trapped(trap),
         End::Refused(fault, _, _) => Outcome::Refused(fault),

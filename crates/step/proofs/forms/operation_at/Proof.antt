@@ -2,7 +2,7 @@
 use Rattle.std.proofs.Common.{◌≡◌, ℕ, map, arith}
 use Rattle.step.specs.declared.forms.Found.TheVariants.{Is, NoOperation}
 use Rattle.step.specs.Operations.{Row, operations, operation_at}
-use Rattle.alu.proofs.Tables.{missed}
+use Rattle.step.proofs.Operations.{missed}
 use Rattle.step.proofs.forms.operation_at.Statement.{statement}
 use Rattle.step.proofs.forms.operation_at.Tie as tie
 
@@ -29,5 +29,4 @@ operation_at_spec =
     (λ c. at c.before.args.number 0x18 (omega arith)) (λ c. at c.before.args.number 0x19 (omega arith))
     (λ c. at c.before.args.number 0x1a (omega arith)) (λ c. at c.before.args.number 0x1b (omega arith))
     (λ c. at c.before.args.number 0x1c (omega arith)) (λ c. at c.before.args.number 0x1d (omega arith))
-    (λ c. at c.before.args.number 0x1e (omega arith))
     (λ c. missed (map (λ (r : Row). Is r.operation) operations) NoOperation c.before.args.number c.match.rest))

@@ -8,7 +8,6 @@ operation_of_spec =
     tie.close
     (tie.spec
     (search rules) (search rules) (search rules) (search rules) (search rules) (search rules) (search rules) (search rules) (search rules)
-    (search rules)
     (λ c. rw c.before.form.given.1) (λ c. rw c.before.form2.given.1)
     (λ c. rw (c.before.before.before.form3.given.1, c.enum_told.given.1)) (λ c. rw (c.before.before.before.form3.given.1, c.enum-told2.given.1))
-    (λ c. rw c.before.form4.given.1) (λ c. rw c.before.form5.given.1) (λ c. rw c.before.form6.given.1) (λ c. search rules) (λ c. search rules))
+    (λ c. rw c.before.form4.given.1) (λ c. rw c.before.form5.given.1) (λ c. rw c.before.form6.given.1) (λ c. search rules))

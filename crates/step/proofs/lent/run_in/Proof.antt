@@ -54,21 +54,21 @@ use Rattle.step.specs.declared.runs.Course.{Course}
 use Rattle.step.specs.Perform.{perform_of}
 use Rattle.step.specs.Run.{run_of}
 use Rattle.step.specs.Lent.{held, ran_in}
-use Rattle.step.specs.Course.{came_out, is_done, limit_of, begin_of, Advanced, nowhere, left_of, Ready, Halts}
+use Rattle.step.specs.Course.{came_out, is_done, stop_of, begin_of, Advanced, nowhere, left_of, Ready, Halts}
 use Rattle.step.proofs.Walks.{rest}
 use Rattle.step.proofs.Lending.{Regs, arr, ref, d_val, ref_own, Lends, lends, comes_back}
 use Rattle.step.proofs.Figures.{perform_fits}
-use Rattle.step.proofs.Running.{last_line, any_line, is_true, sober, answer_of, begin_answer, turn_answer, ended_answer, limit_few, Runs, begin_runs, turn_runs, left_in, turn_less}
+use Rattle.step.proofs.Running.{last_line, any_line, is_true, sober, answer_of, begin_answer, turn_answer, stopped_answer, stop_few, Runs, begin_runs, turn_runs, left_in, turn_less}
 use Rattle.step.specs.contracts.forms.Step as T
 use Rattle.step.proofs.forms.Step.TheLaws as T'
 use Rattle.step.specs.contracts.runs.Left as E
 use Rattle.step.proofs.runs.Left.TheLaws as E'
 use Rattle.step.specs.contracts.runs.Course as O
 use Rattle.step.proofs.runs.Course.TheLaws as O'
-use Rattle.step.specs.contracts.runs.limit_at as limit-at
-use Rattle.step.proofs.runs.limit_at.Symbol as limit-at-def
-use Rattle.step.proofs.runs.limit_at.Symbol.{name as #limit-at}
-use Rattle.step.proofs.runs.limit_at.Met as limit-at-thm
+use Rattle.step.specs.contracts.runs.stop_at as stop-at
+use Rattle.step.proofs.runs.stop_at.Symbol as stop-at-def
+use Rattle.step.proofs.runs.stop_at.Symbol.{name as #stop-at}
+use Rattle.step.proofs.runs.stop_at.Met as stop-at-thm
 use Rattle.step.specs.contracts.runs.begin as begin
 use Rattle.step.proofs.runs.begin.Symbol as begin-def
 use Rattle.step.proofs.runs.begin.Symbol.{name as #begin}
@@ -85,10 +85,6 @@ use Rattle.step.specs.contracts.runs.place_before as place-before
 use Rattle.step.proofs.runs.place_before.Symbol as place-before-def
 use Rattle.step.proofs.runs.place_before.Symbol.{name as #place-before}
 use Rattle.step.proofs.runs.place_before.Met as place-before-thm
-use Rattle.step.specs.contracts.runs.line_of as Line-of
-use Rattle.step.proofs.runs.line_of.Symbol as line-of-def
-use Rattle.step.proofs.runs.line_of.Symbol.{name as #line-of}
-use Rattle.step.proofs.runs.line_of.Met as line-of-thm
 use Rattle.step.specs.contracts.runs.nowhere as nowhere-fn
 use Rattle.step.proofs.runs.nowhere.Symbol as nowhere-def
 use Rattle.step.proofs.runs.nowhere.Symbol.{name as #nowhere}
@@ -158,8 +154,8 @@ module _ {M : Type 1} {𝓤 : Ura M} (𝓛 : Logic 𝓤) (mem : Memory → SProp
   -- the contracts that the proof cites
   open 𝓛 use {H}
 
-  abbrev LimitAt : Contract 𝓤
-  LimitAt = triple_of 𝓛 limit-at.signature (limit-at.spec 𝓛 mem run)
+  abbrev StopAt : Contract 𝓤
+  StopAt = triple_of 𝓛 stop-at.signature (stop-at.spec 𝓛 mem run)
 
   abbrev Begin : Contract 𝓤
   Begin = triple_of 𝓛 begin.signature (begin.spec 𝓛 mem run)
@@ -172,9 +168,6 @@ module _ {M : Type 1} {𝓤 : Ura M} (𝓛 : Logic 𝓤) (mem : Memory → SProp
 
   abbrev Before : Contract 𝓤
   Before = triple_of 𝓛 place-before.signature (place-before.spec 𝓛 mem run)
-
-  abbrev LineOf : Contract 𝓤
-  LineOf = triple_of 𝓛 Line-of.signature (Line-of.spec 𝓛 mem run)
 
   abbrev Nowhere : Contract 𝓤
   Nowhere = triple_of 𝓛 nowhere-fn.signature (nowhere-fn.spec 𝓛 mem run)
@@ -190,7 +183,6 @@ module _ {M : Type 1} {𝓤 : Ura M} (𝓛 : Logic 𝓤) (mem : Memory → SProp
     pub done : Triple 𝓤 (𝓣.C #all-done) AllDone
     pub before : Triple 𝓤 (𝓣.C #place-before) Before
     pub none : Triple 𝓤 (𝓣.C #nowhere) Nowhere
-    pub line : Triple 𝓤 (𝓣.C #line-of) LineOf
     pub fetched : Triple 𝓤 (𝓣.C #fetch) Fetch
     pub left : Triple 𝓤 (𝓣.C #left-off) LeftOff
 
@@ -219,7 +211,7 @@ module _ {M : Type 1} {𝓤 : Ura M} (𝓛 : Logic 𝓤) (mem : Memory → SProp
 
   -- the place that the run does not go beyond
   abbrev final : ℕ
-  final = limit_of (length ys) start budget
+  final = stop_of (length ys) start budget
 
   final_fits : final < 2 ^ 64
   final_fits = omega (arith, gn.0)
@@ -242,20 +234,20 @@ module _ {M : Type 1} {𝓤 : Ura M} (𝓛 : Logic 𝓤) (mem : Memory → SProp
       feq_i ! (List Val) (vptr b₃ o₃ ∷ []) (vptr b₃ o₃ ∷ []) refl $ move ! (0 ∷ 4 ∷ 5 ∷ []) $ fjoin3 ! $ fjoin ! $ feq_i ! (List Val) (vptr b₂ o₂ ∷ []) (vptr b₂ o₂ ∷ []) refl $ move ! (0 ∷ 2 ∷ 3 ∷ []) $ fjoin3 ! $ fjoin ! $ nothing ! $
       fjoin ! $ frame ! $ owned ! E.the_row (Is E.the_row) ((LL.makes E.the_type E'.the_plain) 𝓛) r _ pr $ done !
 
-  -- a call of `limit_at`: what its triple binds outside, what it asks, and what it says
-  abbrev for_limit : Args limit-at.signature tt
-  for_limit = (length ys, (start, (budget, tt)))
+  -- a call of `stop_at`: what its triple binds outside, what it asks, and what it says
+  abbrev for_stop : Args stop-at.signature tt
+  for_stop = (length ys, (start, (budget, tt)))
 
-  abbrev to_limit : (LimitAt 𝓛 mem run).Ghost
-  to_limit = ((tt, tt, tt, for_limit, (vint w64 (length ys) ∷ [], (vint w64 start ∷ [], (vint w32 budget ∷ [], tt)))), tt)
+  abbrev to_stop : (StopAt 𝓛 mem run).Ghost
+  to_stop = ((tt, tt, tt, for_stop, (vint w64 (length ys) ∷ [], (vint w64 start ∷ [], (vint w32 budget ∷ [], tt)))), tt)
 
-  asks_limit : ent 𝓤 (emp 𝓤) ((LimitAt 𝓛 mem run).pre to_limit)
-  asks_limit =
+  asks_stop : ent 𝓤 (emp 𝓤) ((StopAt 𝓛 mem run).pre to_stop)
+  asks_stop =
       qed 𝓛 [] ∵ nothing ! $ owned ! u32 (Is u32) (uint_Makes 𝓛 w32) budget _ (refl, gb) $ fjoin ! $ owned ! usize (Is usize) (uint_Makes 𝓛 w64) start _ (refl, gs) $ fjoin ! $
       owned ! usize (Is usize) (uint_Makes 𝓛 w64) (length ys) _ (refl, gn.0) $ fjoin ! $ nothing ! $ join ! $ frame ! $ done !
 
-  says_limit : (n : ℕ) → ent 𝓤 (ensured 𝓛 limit-at.ended (limit-at.clauses 𝓛 mem run) tt for_limit tt n) (fact 𝓤 (n ≡ final))
-  says_limit n = ex_e 𝓤 _ (λ ws. snd∗ 𝓤 (sem 𝓛 (lasts limit-at.ended tt for_limit ws)) (fact 𝓤 (n ≡ final)))
+  says_stop : (n : ℕ) → ent 𝓤 (ensured 𝓛 stop-at.ended (stop-at.clauses 𝓛 mem run) tt for_stop tt n) (fact 𝓤 (n ≡ final))
+  says_stop n = ex_e 𝓤 _ (λ ws. snd∗ 𝓤 (sem 𝓛 (lasts stop-at.ended tt for_stop ws)) (fact 𝓤 (n ≡ final)))
 
   -- a call of `begin`
   abbrev for_begin : Args begin.signature tt
@@ -323,20 +315,6 @@ module _ {M : Type 1} {𝓤 : Ura M} (𝓛 : Logic 𝓤) (mem : Memory → SProp
 
     says_before : (p : ℕ) → ent 𝓤 (ensured 𝓛 place-before.ended (place-before.clauses 𝓛 mem run) tt for_before tt p) (fact 𝓤 (p ≡ n - 1))
     says_before p = ex_e 𝓤 _ (λ ws. snd∗ 𝓤 (sem 𝓛 (lasts place-before.ended tt for_before ws)) (fact 𝓤 (p ≡ n - 1)))
-
-  -- a call of `line_of`
-  module _ (last : Step) where
-    abbrev for_line : Args Line-of.signature tt
-    for_line = (last, tt)
-
-    abbrev to_line : (LineOf 𝓛 mem run).Ghost
-    to_line = ((tt, tt, tt, for_line, (t_val last ∷ [], tt)), tt)
-
-    asks_line : Is T.the_row last (t_val last ∷ []) → ent 𝓤 (emp 𝓤) ((LineOf 𝓛 mem run).pre to_line)
-    asks_line pt = qed 𝓛 [] ∵ nothing ! $ owned ! T.the_row (Is T.the_row) ((LL.makes T.the_type T'.the_plain) 𝓛) last _ pt $ fjoin ! $ nothing ! $ join ! $ frame ! $ done !
-
-    says_line : (n : ℕ) → ent 𝓤 (ensured 𝓛 Line-of.ended (Line-of.clauses 𝓛 mem run) tt for_line tt n) (fact 𝓤 (n ≡ last.line))
-    says_line n = ex_e 𝓤 _ (λ ws. snd∗ 𝓤 (sem 𝓛 (lasts Line-of.ended tt for_line ws)) (fact 𝓤 (n ≡ last.line)))
 
   -- a call of `nowhere`
   abbrev to_nowhere : (Nowhere 𝓛 mem run).Ghost
@@ -417,8 +395,8 @@ module _ {M : Type 1} {𝓤 : Ura M} (𝓛 : Logic 𝓤) (mem : Memory → SProp
     abbrev len_is : Item 𝓤
     len_is = ‵ (fat full_share word l₇ 0 (vint w64 (length ys)))
 
-    abbrev limit_is : Item 𝓤
-    limit_is = ‵ (fat full_share word l₈ 0 (vint w64 final))
+    abbrev stop_is : Item 𝓤
+    stop_is = ‵ (fat full_share word l₈ 0 (vint w64 final))
 
     abbrev on_is : Course → Item 𝓤
     on_is on = ‵ (fat full_share O'.mir l₉ 0 (o_val on))
@@ -430,11 +408,11 @@ module _ {M : Type 1} {𝓤 : Ura M} (𝓛 : Logic 𝓤) (mem : Memory → SProp
     no_flag = ‵ (froom ty_bool l₁₁ 0)
 
     abbrev At : Upto → List (Item 𝓤)
-    At u = Idle no_flag (on_is u.1.1.0) limit_is len_is (Opened u.0 u.1.0)
+    At u = Idle no_flag (on_is u.1.1.0) stop_is len_is (Opened u.0 u.1.0)
 
     -- a step is fetched, and the two references made
     abbrev Fetched : Course → Step → List (Item 𝓤) → List (Item 𝓤)
-    Fetched on t below = Held-at (‵ (fat full_share T'.mir l₁₆ 0 (t_val t))) (‵ (fat full_share ref l₁₃ 0 (vptr b₃ o₃))) (‵ (fat full_share ref l₁₂ 0 (vptr b₂ o₂))) no_flag (on_is on) limit_is len_is below
+    Fetched on t below = Held-at (‵ (fat full_share T'.mir l₁₆ 0 (t_val t))) (‵ (fat full_share ref l₁₃ 0 (vptr b₃ o₃))) (‵ (fat full_share ref l₁₂ 0 (vptr b₂ o₂))) no_flag (on_is on) stop_is len_is below
 
     -- while the two rows are lent: the borrows without their cells
     abbrev Others : List (Item 𝓤)
@@ -452,7 +430,7 @@ module _ {M : Type 1} {𝓤 : Ura M} (𝓛 : Logic 𝓤) (mem : Memory → SProp
 
     -- the end of the body: `left_off` is called, the borrows are closed, and its answer is returned
     ends_body : (d a : List ℕ) (on : Course) → Stands d a on → on.going ≡ false → (line : ℕ) → line < 2 ^ 8 → left_of (length ys) start on line ≡ left_of (length ys) start on (last_line ys on.next)
-        → Sq 𝓛 (‵ (froom T'.mir l₂₁ 0) ∷ ‵ (fdies T'.mir l₂₁) ∷ ‵ (froom word l₂₀ 0) ∷ ‵ (fdies word l₂₀) ∷ ‵ (froom T'.mir l₁₉ 0) ∷ ‵ (fdies T'.mir l₁₉) ∷ ‵ (fat full_share (ty_int w8) l₁₈ 0 (vint w8 line)) ∷ ‵ (fdies (ty_int w8) l₁₈) ∷ ‵ (froom ty_bool l₁₇ 0) ∷ ‵ (fdies ty_bool l₁₇) ∷ ‵ (froom T'.mir l₁₆ 0) ∷ ‵ (fdies T'.mir l₁₆) ∷ ‵ (froom ty_ptr l₁₅ 0) ∷ ‵ (fdies ty_ptr l₁₅) ∷ ‵ (froom word l₁₄ 0) ∷ ‵ (fdies word l₁₄) ∷ ‵ (froom ref l₁₃ 0) ∷ ‵ (fdies ref l₁₃) ∷ ‵ (froom ref l₁₂ 0) ∷ ‵ (fdies ref l₁₂) ∷ ‵ (fat full_share ty_bool l₁₁ 0 (vbool false)) ∷ ‵ (fdies ty_bool l₁₁) ∷ ‵ (froom (ty_int w8) l₁₀ 0) ∷ ‵ (fdies (ty_int w8) l₁₀) ∷ on_is on ∷ ‵ (fdies O'.mir l₉) ∷ limit_is ∷ ‵ (fdies word l₈) ∷ len_is ∷ ‵ (fdies word l₇) ∷ ‵ (fat full_share (ty_int w32) l₆ 0 (vint w32 budget)) ∷ ‵ (fdies (ty_int w32) l₆) ∷ ‵ (fat full_share word l₅ 0 (vint w64 start)) ∷ ‵ (fdies word l₅) ∷ ‵ (fat full_share F'.mir l₄ 0 (f_val flags)) ∷ ‵ (fdies F'.mir l₄) ∷ ‵ (fat full_share aty l₃ 0 (vptr b₃ o₃)) ∷ ‵ (fdies aty l₃) ∷ ‵ (fat full_share dty l₂ 0 (vptr b₂ o₂)) ∷ ‵ (fdies dty l₂) ∷ ‵ (fat full_share lty l₁ 0 lv) ∷ ‵ (fdies lty l₁) ∷ ‵ (froom E'.mir l₀ 0) ∷ ‵ (fdies E'.mir l₀) ∷ Open d a) (runs C Λ En mir.t-7 (at_ret En Post))
+        → Sq 𝓛 (‵ (froom T'.mir l₂₁ 0) ∷ ‵ (fdies T'.mir l₂₁) ∷ ‵ (froom word l₂₀ 0) ∷ ‵ (fdies word l₂₀) ∷ ‵ (froom T'.mir l₁₉ 0) ∷ ‵ (fdies T'.mir l₁₉) ∷ ‵ (fat full_share (ty_int w8) l₁₈ 0 (vint w8 line)) ∷ ‵ (fdies (ty_int w8) l₁₈) ∷ ‵ (froom ty_bool l₁₇ 0) ∷ ‵ (fdies ty_bool l₁₇) ∷ ‵ (froom T'.mir l₁₆ 0) ∷ ‵ (fdies T'.mir l₁₆) ∷ ‵ (froom ty_ptr l₁₅ 0) ∷ ‵ (fdies ty_ptr l₁₅) ∷ ‵ (froom word l₁₄ 0) ∷ ‵ (fdies word l₁₄) ∷ ‵ (froom ref l₁₃ 0) ∷ ‵ (fdies ref l₁₃) ∷ ‵ (froom ref l₁₂ 0) ∷ ‵ (fdies ref l₁₂) ∷ ‵ (fat full_share ty_bool l₁₁ 0 (vbool false)) ∷ ‵ (fdies ty_bool l₁₁) ∷ ‵ (froom (ty_int w8) l₁₀ 0) ∷ ‵ (fdies (ty_int w8) l₁₀) ∷ on_is on ∷ ‵ (fdies O'.mir l₉) ∷ stop_is ∷ ‵ (fdies word l₈) ∷ len_is ∷ ‵ (fdies word l₇) ∷ ‵ (fat full_share (ty_int w32) l₆ 0 (vint w32 budget)) ∷ ‵ (fdies (ty_int w32) l₆) ∷ ‵ (fat full_share word l₅ 0 (vint w64 start)) ∷ ‵ (fdies word l₅) ∷ ‵ (fat full_share F'.mir l₄ 0 (f_val flags)) ∷ ‵ (fdies F'.mir l₄) ∷ ‵ (fat full_share aty l₃ 0 (vptr b₃ o₃)) ∷ ‵ (fdies aty l₃) ∷ ‵ (fat full_share dty l₂ 0 (vptr b₂ o₂)) ∷ ‵ (fdies dty l₂) ∷ ‵ (fat full_share lty l₁ 0 lv) ∷ ‵ (fdies lty l₁) ∷ ‵ (froom E'.mir l₀ 0) ∷ ‵ (fdies E'.mir l₀) ∷ Open d a) (runs C Λ En mir.t-7 (at_ret En Post))
     ends_body d a on st g line small same =
         assigns ! (of_opd ! (load ! (from ! (stop !)) (look ! 6 refl))) (from ! (stop !)) (init ! 22 refl (tt, record { fits = small })) $
         use0 𝓛 (raw ((LeftOff 𝓛 mem run).pre (to_left on line))) (asks_left on line st.is_on small (st.on_way.halts line)) $
@@ -468,10 +446,10 @@ module _ {M : Type 1} {𝓤 : Ura M} (𝓛 : Logic 𝓤) (mem : Memory → SProp
         free1 ! $ move ! (34 ∷ 35 ∷ []) $ free1 ! $ move ! (32 ∷ 33 ∷ []) $ free1 ! $ move ! (30 ∷ 31 ∷ []) $ free1 ! $ move ! (28 ∷ 29 ∷ []) $ free1 ! $ move ! (26 ∷ 27 ∷ []) $ free1 ! $ move ! (24 ∷ 25 ∷ []) $ free1 ! $
         move ! (22 ∷ 23 ∷ []) $ free1 ! $ move ! (20 ∷ 21 ∷ []) $ free1 ! $ move ! (18 ∷ 19 ∷ []) $ free1 ! $ move ! (16 ∷ 17 ∷ []) $ free1 ! $ move ! (14 ∷ 15 ∷ []) $ free1 ! $ move ! (12 ∷ 13 ∷ []) $ free1 ! $ move ! (10 ∷ 11 ∷ []) $
         free1 ! $ move ! (8 ∷ 9 ∷ []) $ free1 ! $ move ! (6 ∷ 7 ∷ []) $ free1 ! $ free0 ! $ keep ! (0 ∷ 1 ∷ 2 ∷ 3 ∷ 4 ∷ 5 ∷ 6 ∷ []) $
-        by ! (exits r d a (ap (λ (r : Left). ran_in r d a) (e ∙ same) ∙ (ended_answer perform_of ys start final d a on g ∙ st.comes)) (subst (Is E.the_row r) (LL.tells E.the_type E'.the_laws r (v ∷ []) is) is))))))
+        by ! (exits r d a (ap (λ (r : Left). ran_in r d a) (e ∙ same) ∙ (stopped_answer perform_of ys start final d a on g ∙ st.comes)) (subst (Is E.the_row r) (LL.tells E.the_type E'.the_laws r (v ∷ []) is) is))))))
 
     -- after the loop: where each step was done the line is 0, else that of the step before the place where the run stands
-    finishes : (d a : List ℕ) (on : Course) → Stands d a on → on.going ≡ false → Sq 𝓛 (Idle (‵ (fat full_share ty_bool l₁₁ 0 (vbool false))) (on_is on) limit_is len_is (Opened d a)) (runs C Λ En mir.t-5 (at_ret En Post))
+    finishes : (d a : List ℕ) (on : Course) → Stands d a on → on.going ≡ false → Sq 𝓛 (Idle (‵ (fat full_share ty_bool l₁₁ 0 (vbool false))) (on_is on) stop_is len_is (Opened d a)) (runs C Λ En mir.t-5 (at_ret En Post))
     finishes d a on st g =
         let g-on : on.next < 2 ^ 64 = let most = st.on_way.to in omega (arith, final_fits) in
         use0 𝓛 (raw ((AllDone 𝓛 mem run).pre (to_done on))) (asks_done on st.is_on) $
@@ -500,14 +478,10 @@ module _ {M : Type 1} {𝓤 : Ura M} (𝓛 : Logic 𝓤) (mem : Memory → SProp
         split ! $ move ! (1 ∷ []) $ use1 𝓛 (raw (fact 𝓤 (last ≡ get_or ys p o))) (says_fetch p o last) $ heard ! (last ≡ get_or ys p o) (λ e-last. split ! $ move ! (1 ∷ []) $
         peeks ! T.the_row (Is T.the_row) (shows 𝓛 T.the_row) last (v ∷ []) (λ is_last. land ! (from ! (stop !)) (init ! 6 refl ((LL.lawful T.the_type T'.the_laws 𝓛).typed last _ is_last).0) $
         rewrite ! 6 (λ (y : Val). ‵ (fat full_share T'.mir l₁₉ 0 y)) (ap only (LL.tells T.the_type T'.the_laws last (v ∷ []) is_last)) refl $ drops ! $ split ! $ move ! (1 ∷ []) $ drops ! $
-        use0 𝓛 (raw ((LineOf 𝓛 mem run).pre (to_line last))) (asks_line last (subst (Is T.the_row last) (LL.tells T.the_type T'.the_laws last (v ∷ []) is_last) is_last)) $
-        calls_at ! (fm_of 𝓤 H 𝓛.laws 𝓣) (LineOf 𝓛 mem run) behind.line (to_line last) (and_then ! (load ! (from ! (stop !)) (look ! 6 refl)) (no_more !)) (λ v.
-        use1 𝓛 (later (some (λ (n : ℕ). (‵ ftrue ⊛ ‵ (u8.own_val n (v ∷ []))) ⊛ raw (ensured 𝓛 Line-of.ended (Line-of.clauses 𝓛 mem run) tt (for_line last) tt n)))) (id⊢ 𝓤 _) $ await ! tt $ pick ! (λ n. split ! $ move ! (1 ∷ []) $
-        use1 𝓛 (raw (fact 𝓤 (n ≡ last.line))) (says_line last n) $ heard ! (n ≡ last.line) (λ e-n. split ! $ drops ! $ peeks ! u8 (Is u8) (shows 𝓛 u8) n (v ∷ []) (λ is-n.
-        land_last ! (from ! (stop !)) (init ! 8 refl ((uint_Lawful 𝓛 w8).typed n _ is-n).0) $ rewrite ! 8 (λ (y : Val). ‵ (fat full_share (ty_int w8) l₁₈ 0 y)) (ap only (uint_Tells w8 n (v ∷ []) is-n)) refl $ drops ! $
+        assigns_last ! (of_opd ! (load ! (from ! (fld ! refl (stop !))) (look_in ! 5 (sub ! 2 refl (whole !))))) (from ! (stop !)) (init ! 7 refl (tt, record { fits = (LL.owed T.the_type T'.the_laws last _ (subst (Is T.the_row last) (LL.tells T.the_type T'.the_laws last (v ∷ []) is_last) is_last)).1.1.0.1 })) $
         exec ! C Λ En mir.t-7 (at_ret En Post) $ forget ! 9 refl $ forget ! 5 refl $ forget ! 3 refl $ forget ! 1 refl $
         keep ! (1 ∷ 2 ∷ 3 ∷ 4 ∷ 5 ∷ 6 ∷ 7 ∷ 8 ∷ 9 ∷ 10 ∷ 11 ∷ 12 ∷ 13 ∷ 14 ∷ 15 ∷ 16 ∷ 17 ∷ 18 ∷ 19 ∷ 20 ∷ 21 ∷ 22 ∷ 23 ∷ 24 ∷ 25 ∷ 26 ∷ 27 ∷ 28 ∷ 29 ∷ 30 ∷ 31 ∷ 32 ∷ 33 ∷ 34 ∷ 35 ∷ 36 ∷ 37 ∷ 38 ∷ 39 ∷ 40 ∷ 41 ∷ 42 ∷ 43 ∷ 44 ∷ 45 ∷ 46 ∷ 47 ∷ 48 ∷ 49 ∷ 50 ∷ 51 ∷ 52 ∷ 0 ∷ []) $
-        ends_body d a on st g n is-n.1 (ap (left_of (length ys) start on) e-n ∙ ap (λ (t : Step). left_of (length ys) start on t.line) (e-last ∙ ap₂ (get_or ys) e-p e-o)))))))))))))))))))))))
+        ends_body d a on st g last.line (LL.owed T.the_type T'.the_laws last _ (subst (Is T.the_row last) (LL.tells T.the_type T'.the_laws last (v ∷ []) is_last) is_last)).1.1.0.1 (ap (λ (t : Step). left_of (length ys) start on t.line) (e-last ∙ ap₂ (get_or ys) e-p e-o)))))))))))))))))))
 
     -- the turn that leaves the loop
     leaves : (u : Upto) → u.1.1.0.going ≡ false → Sq 𝓛 (At u) (runs C Λ En mir.turn-1 (any_q (After u)))
@@ -540,7 +514,7 @@ module _ {M : Type 1} {𝓤 : Ura M} (𝓛 : Logic 𝓤) (mem : Memory → SProp
       w = st.on_way.ready g
 
       short : final ≤ length ys
-      short = let later = st.on_way.from in let inside = w.inside in (limit_few (length ys) start budget).1.1 (omega arith)
+      short = let later = st.on_way.from in let inside = w.inside in (stop_few (length ys) start budget).1.1 (omega arith)
 
       within : i < length ys
       within = let inside = w.inside in omega (arith, short)
@@ -563,7 +537,7 @@ module _ {M : Type 1} {𝓤 : Ura M} (𝓛 : Logic 𝓤) (mem : Memory → SProp
               is_a = pa;
               is_on = pr;
               comes = turn_answer perform_of sober ys start final d a d' a' on r g st.on_way short e ∙ st.comes;
-              on_way = turn_runs (length ys) start final on (let few = limit_few (length ys) start budget in omega (arith, few.1.0)) g st.on_way _ d' a' r (perform_fits (held d a on.flags) t) e;
+              on_way = turn_runs (length ys) start final on (let few = stop_few (length ys) start budget in omega (arith, few.1.0)) g st.on_way _ d' a' r (perform_fits (held d a on.flags) t) e;
             },
           ),
         ),
@@ -644,15 +618,15 @@ module _ {M : Type 1} {𝓤 : Ura M} (𝓛 : Logic 𝓤) (mem : Memory → SProp
       ),
     )
 
-    -- the calls of `limit_at` and `begin`
-    starts : Triple 𝓤 (𝓣.C #limit-at) (LimitAt 𝓛 mem run) → Triple 𝓤 (𝓣.C #begin) (Begin 𝓛 mem run) → Is Regs d₀ (d_val d₀ ∷ []) → Is Regs a₀ (d_val a₀ ∷ [])
+    -- the calls of `stop_at` and `begin`
+    starts : Triple 𝓤 (𝓣.C #stop-at) (StopAt 𝓛 mem run) → Triple 𝓤 (𝓣.C #begin) (Begin 𝓛 mem run) → Is Regs d₀ (d_val d₀ ∷ []) → Is Regs a₀ (d_val a₀ ∷ [])
         → Sq 𝓛 (Idle no_flag (‵ (froom O'.mir l₉ 0)) (‵ (froom word l₈ 0)) (‵ (froom word l₇ 0)) (Opened d₀ a₀)) (runs C Λ En (code.function).body (at_ret En Post))
     unfolding begun
-    starts known-limit known-begin pd pa =
-        assigns ! (of_opd ! (load ! (from ! (fld ! refl (stop !))) (look_in ! 40 (sub ! 1 refl (whole !))))) (from ! (stop !)) (init ! 28 refl (tt, record { fits = gn.0 })) $ use0 𝓛 (raw ((LimitAt 𝓛 mem run).pre to_limit)) asks_limit $
-        calls_at ! (fm_of 𝓤 H 𝓛.laws 𝓣) (LimitAt 𝓛 mem run) known-limit to_limit (and_then ! (load ! (from ! (stop !)) (look ! 29 refl)) (and_then ! (load ! (from ! (stop !)) (look ! 33 refl)) (and_then ! (load ! (from ! (stop !)) (look ! 31 refl)) (no_more !)))) (λ v.
-        use1 𝓛 (later (some (λ (n : ℕ). (‵ ftrue ⊛ ‵ (usize.own_val n (v ∷ []))) ⊛ raw (ensured 𝓛 limit-at.ended (limit-at.clauses 𝓛 mem run) tt for_limit tt n)))) (id⊢ 𝓤 _) $ await ! tt $ pick ! (λ n. split ! $ move ! (1 ∷ []) $
-        use1 𝓛 (raw (fact 𝓤 (n ≡ final))) (says_limit n) $ heard ! (n ≡ final) (λ e-n. split ! $ drops ! $ peeks ! usize (Is usize) (shows 𝓛 usize) n (v ∷ []) (λ is-n.
+    starts known-stop known-begin pd pa =
+        assigns ! (of_opd ! (load ! (from ! (fld ! refl (stop !))) (look_in ! 40 (sub ! 1 refl (whole !))))) (from ! (stop !)) (init ! 28 refl (tt, record { fits = gn.0 })) $ use0 𝓛 (raw ((StopAt 𝓛 mem run).pre to_stop)) asks_stop $
+        calls_at ! (fm_of 𝓤 H 𝓛.laws 𝓣) (StopAt 𝓛 mem run) known-stop to_stop (and_then ! (load ! (from ! (stop !)) (look ! 29 refl)) (and_then ! (load ! (from ! (stop !)) (look ! 33 refl)) (and_then ! (load ! (from ! (stop !)) (look ! 31 refl)) (no_more !)))) (λ v.
+        use1 𝓛 (later (some (λ (n : ℕ). (‵ ftrue ⊛ ‵ (usize.own_val n (v ∷ []))) ⊛ raw (ensured 𝓛 stop-at.ended (stop-at.clauses 𝓛 mem run) tt for_stop tt n)))) (id⊢ 𝓤 _) $ await ! tt $ pick ! (λ n. split ! $ move ! (1 ∷ []) $
+        use1 𝓛 (raw (fact 𝓤 (n ≡ final))) (says_stop n) $ heard ! (n ≡ final) (λ e-n. split ! $ drops ! $ peeks ! usize (Is usize) (shows 𝓛 usize) n (v ∷ []) (λ is-n.
         land ! (from ! (stop !)) (init ! 27 refl ((uint_Lawful 𝓛 w64).typed n _ is-n).0) $ rewrite ! 27 (λ (y : Val). ‵ (fat full_share word l₈ 0 y)) (ap only (uint_Tells w64 n (v ∷ []) is-n)) refl $ drops ! $
         rewrite ! 26 (λ (k : ℕ). ‵ (fat full_share word l₈ 0 (vint w64 k))) e-n refl $ use0 𝓛 (raw ((Begin 𝓛 mem run).pre to_begin)) asks_begin $
         calls_at ! (fm_of 𝓤 H 𝓛.laws 𝓣) (Begin 𝓛 mem run) known-begin to_begin (and_then ! (load ! (from ! (stop !)) (look ! 29 refl)) (and_then ! (load ! (from ! (stop !)) (look ! 33 refl)) (and_then ! (load ! (from ! (stop !)) (look ! 27 refl)) (and_then ! (load ! (from ! (stop !)) (look ! 35 refl)) (no_more !))))) (λ v.
@@ -663,9 +637,9 @@ module _ {M : Type 1} {𝓤 : Ura M} (𝓛 : Logic 𝓤) (mem : Memory → SProp
         loops_on (begun on e (subst (Is O.the_row on) (LL.tells O.the_type O'.the_laws on (v ∷ []) is) is) pd pa)))))))))
 
   -- the locals are made, the parameters passed, and the borrows opened
-  walk : (𝓣 : Tables 𝓤 H) → Triple 𝓤 (𝓣.C #limit-at) (LimitAt 𝓛 mem run) → Triple 𝓤 (𝓣.C #begin) (Begin 𝓛 mem run) → Triple 𝓤 (𝓣.C #advance) (Advance 𝓛 mem run) → Behind 𝓛 mem run 𝓣
+  walk : (𝓣 : Tables 𝓤 H) → Triple 𝓤 (𝓣.C #stop-at) (StopAt 𝓛 mem run) → Triple 𝓤 (𝓣.C #begin) (Begin 𝓛 mem run) → Triple 𝓤 (𝓣.C #advance) (Advance 𝓛 mem run) → Behind 𝓛 mem run 𝓣
       → ent 𝓤 (on_entry 𝓛 run_in.signature (κ₁, (κ₂, (κ₃, tt))) (q₁, (q₂, (q₃, tt))) x at) (WpFn 𝓤 H 𝓣.C 𝓣.Λ code.function (lv ∷ vptr b₂ o₂ ∷ vptr b₃ o₃ ∷ f_val flags ∷ vint w64 start ∷ vint w32 budget ∷ []) Post)
-  walk 𝓣 known-limit known-begin known-advance behind =
+  walk 𝓣 known-stop known-begin known-advance behind =
       qed 𝓛 ((‵ (flft κ₁ q₁) ⊛ ‵ (flft κ₂ q₂) ⊛ ‵ (flft κ₃ q₃) ⊛ ‵ ftrue) ∷ ‵ (owns (ShrSlice (named 0) κ₁ T.the_row ∷ MutRef (named 1) κ₂ Regs ∷ MutRef (named 2) κ₃ Regs ∷ F.the_row ∷ usize ∷ u32 ∷ []) x at) ∷ []) ∵
       enter ! 𝓣.C 𝓣.Λ code.function (lv ∷ vptr b₂ o₂ ∷ vptr b₃ o₃ ∷ f_val flags ∷ vint w64 start ∷ vint w32 budget ∷ []) _ $ alloc1 ! (λ l₀. alloc1 ! (λ l₁. alloc1 ! (λ l₂. alloc1 ! (λ l₃. alloc1 ! (λ l₄. alloc1 ! (λ l₅. alloc1 ! (λ l₆. alloc1 ! (λ l₇. alloc1 ! (λ l₈. alloc1 ! (λ l₉. alloc1 ! (λ l₁₀. alloc1 ! (λ l₁₁. alloc1 ! (λ l₁₂. alloc1 ! (λ l₁₃. alloc1 ! (λ l₁₄. alloc1 ! (λ l₁₅. alloc1 ! (λ l₁₆. alloc1 ! (λ l₁₇. alloc1 ! (λ l₁₈. alloc1 ! (λ l₁₉. alloc1 ! (λ l₂₀. alloc1 ! (λ l₂₁. alloc0 ! $ params1 ! $
       pass1 ! (init ! 40 refl (tt, (tt, (record { fits = gn.0 }, tt)))) $ pass1 ! (init ! 38 refl (tt, tt)) $ pass1 ! (init ! 36 refl (tt, tt)) $ pass1 ! (init ! 34 refl ((LL.lawful F.the_type F'.the_laws 𝓛).typed flags _ pf).0) $
@@ -676,20 +650,20 @@ module _ {M : Type 1} {𝓤 : Ura M} (𝓛 : Logic 𝓤) (mem : Memory → SProp
       opens ! tt Regs {h = a₀} b₃ o₃ (λ us. spelt ! Regs (Is Regs) (shows 𝓛 Regs) (array_vals (uint_vals w32)) (Array-Tells u32 (uint_vals w32) (uint_Tells w32) 8) full_share a₀ us b₃ o₃ $ move ! (1 ∷ []) $
       peeks ! Regs (Is Regs) (shows 𝓛 Regs) a₀ (d_val a₀ ∷ []) (λ pa. drops ! $
       keep ! (14 ∷ 15 ∷ 16 ∷ 17 ∷ 18 ∷ 19 ∷ 20 ∷ 21 ∷ 22 ∷ 23 ∷ 24 ∷ 25 ∷ 26 ∷ 27 ∷ 28 ∷ 29 ∷ 30 ∷ 31 ∷ 32 ∷ 33 ∷ 34 ∷ 35 ∷ 36 ∷ 37 ∷ 38 ∷ 39 ∷ 40 ∷ 41 ∷ 42 ∷ 43 ∷ 44 ∷ 45 ∷ 46 ∷ 47 ∷ 48 ∷ 49 ∷ 50 ∷ 51 ∷ 52 ∷ 53 ∷ 54 ∷ 55 ∷ 56 ∷ 57 ∷ 4 ∷ 5 ∷ 6 ∷ 7 ∷ 0 ∷ 1 ∷ 2 ∷ 3 ∷ 9 ∷ 13 ∷ []) $
-      starts 𝓣 known-advance behind l₀ l₁ l₂ l₃ l₄ l₅ l₆ l₇ l₈ l₉ l₁₀ l₁₁ l₁₂ l₁₃ l₁₄ l₁₅ l₁₆ l₁₇ l₁₈ l₁₉ l₂₀ l₂₁ known-limit known-begin pd pa))))))))))))))))))))))))))
+      starts 𝓣 known-advance behind l₀ l₁ l₂ l₃ l₄ l₅ l₆ l₇ l₈ l₉ l₁₀ l₁₁ l₁₂ l₁₃ l₁₄ l₁₅ l₁₆ l₁₇ l₁₈ l₁₉ l₂₀ l₂₁ known-stop known-begin pd pa))))))))))))))))))))))))))
 
 module _ {M : Type 1} {𝓤 : Ura M} (𝓛 : Logic 𝓤) (mem : Memory → SProp 𝓤) (run : Routine → Fun 𝓤) where
   open 𝓛 use {H}
 
-  run_in_walks : (𝓣 : Tables 𝓤 H) → Triple 𝓤 (𝓣.C #limit-at) (LimitAt 𝓛 mem run) → Triple 𝓤 (𝓣.C #begin) (Begin 𝓛 mem run) → Triple 𝓤 (𝓣.C #advance) (Advance 𝓛 mem run) → Behind 𝓛 mem run 𝓣
+  run_in_walks : (𝓣 : Tables 𝓤 H) → Triple 𝓤 (𝓣.C #stop-at) (StopAt 𝓛 mem run) → Triple 𝓤 (𝓣.C #begin) (Begin 𝓛 mem run) → Triple 𝓤 (𝓣.C #advance) (Advance 𝓛 mem run) → Behind 𝓛 mem run 𝓣
       → Walks 𝓛 run_in.ended stayed (WpFn 𝓤 H 𝓣.C 𝓣.Λ code.function) (run_in.clauses 𝓛 mem run)
-  run_in_walks 𝓣 known-limit known-begin known-advance behind = walked 𝓛 run_in.ended stayed (run_in.clauses 𝓛 mem run) (WpFn 𝓤 H 𝓣.C 𝓣.Λ code.function)
+  run_in_walks 𝓣 known-stop known-begin known-advance behind = walked 𝓛 run_in.ended stayed (run_in.clauses 𝓛 mem run) (WpFn 𝓤 H 𝓣.C 𝓣.Λ code.function)
       (λ κs. (shr_slice_vals, (shr_vals, (shr_vals, (LL.vals F.the_type F'.the_laws, (uint_vals w64, (uint_vals w32, tt)))))))
       (λ κs. (shr_slice_Tells (named 0) κs.0 T.the_row, (mut_Tells (named 1) κs.1.0 Regs, (mut_Tells (named 2) κs.1.1.0 Regs, (LL.tells F.the_type F'.the_laws, (uint_Tells w64, (uint_Tells w32, tt)))))))
       (λ κs qs bounds a _ are. via 𝓤 _ (fst∗ 𝓤 _ (emp 𝓤))
       (walk 𝓛 mem run κs.0 κs.1.0 κs.1.1.0 qs.0 qs.1.0 qs.1.1.0 a.0.ref_ptr.0 a.0.ref_ptr.1 a.0.ghost_name a.0.now a.1.0.ref_ptr.0 a.1.0.ref_ptr.1 a.1.0.ghost_name a.1.0.now
       a.1.1.0.ref_ptr.0 a.1.1.0.ref_ptr.1 a.1.1.0.ghost_name a.1.1.0.now a.1.1.1.0 a.1.1.1.1.0 a.1.1.1.1.1.0
-      are.0.0.1 are.1.1.1.0 are.1.1.1.1.0.1 are.1.1.1.1.1.0.1 𝓣 known-limit known-begin known-advance behind))
+      are.0.0.1 are.1.1.1.0 are.1.1.1.1.0.1 are.1.1.1.1.1.0.1 𝓣 known-stop known-begin known-advance behind))
 
   goes : AllGo 𝓛 3 (run_in.signature).params (run_in.ended).kept stayed
   goes = (
@@ -703,10 +677,10 @@ module _ {M : Type 1} {𝓤 : Ura M} (𝓛 : Logic 𝓤) (mem : Memory → SProp
     ),
   )
 
-run_in_meets : {M : Type 1} {𝓤 : Ura M} (𝓛 : Logic 𝓤) → (mem : Memory → SProp 𝓤) (run : Routine → Fun 𝓤) (𝓣 : Tables 𝓤 𝓛.H) → Triple 𝓤 (𝓣.C #limit-at) (LimitAt 𝓛 mem run) → Triple 𝓤 (𝓣.C #begin) (Begin 𝓛 mem run)
+run_in_meets : {M : Type 1} {𝓤 : Ura M} (𝓛 : Logic 𝓤) → (mem : Memory → SProp 𝓤) (run : Routine → Fun 𝓤) (𝓣 : Tables 𝓤 𝓛.H) → Triple 𝓤 (𝓣.C #stop-at) (StopAt 𝓛 mem run) → Triple 𝓤 (𝓣.C #begin) (Begin 𝓛 mem run)
     → Triple 𝓤 (𝓣.C #advance) (Advance 𝓛 mem run) → Behind 𝓛 mem run 𝓣 → Meets 𝓛 run_in.signature (WpFn 𝓤 𝓛.H 𝓣.C 𝓣.Λ code.function) (run_in.spec 𝓛 mem run)
-run_in_meets {𝓤 = 𝓤} 𝓛 mem run 𝓣 known-limit known-begin known-advance behind =
-    walk_Meets 𝓛 run_in.ended stayed (goes 𝓛 mem run) (run_in.clauses 𝓛 mem run) (WpFn 𝓤 𝓛.H 𝓣.C 𝓣.Λ code.function) (WpFn-mono 𝓤 𝓛.H 𝓛.laws 𝓣 code.function) (run_in_walks 𝓛 mem run 𝓣 known-limit known-begin known-advance behind)
+run_in_meets {𝓤 = 𝓤} 𝓛 mem run 𝓣 known-stop known-begin known-advance behind =
+    walk_Meets 𝓛 run_in.ended stayed (goes 𝓛 mem run) (run_in.clauses 𝓛 mem run) (WpFn 𝓤 𝓛.H 𝓣.C 𝓣.Λ code.function) (WpFn-mono 𝓤 𝓛.H 𝓛.laws 𝓣 code.function) (run_in_walks 𝓛 mem run 𝓣 known-stop known-begin known-advance behind)
 
 pub run_in_spec : {M : Type 1} → stated.statement M
 unfolding code.routine tables_of
@@ -714,13 +688,12 @@ run_in_spec 𝓤 𝓛 𝓜 𝓡 =
     entered 𝓤 𝓛.H (triple_of 𝓛 run_in.signature (run_in.spec 𝓛 𝓜.mem 𝓡.run))
     (tables 𝓤 𝓛.H 𝓜 𝓡 code.env).C (tables 𝓤 𝓛.H 𝓜 𝓡 code.env).Λ #run-in code.function (code.unfolded 𝓤 𝓛.H 𝓜 𝓡)
     (run_in_meets 𝓛 𝓜.mem 𝓡.run (tables_of 𝓤 𝓛.H 𝓜 (tables 𝓤 𝓛.H 𝓜 𝓡 code.env))
-    (cited 𝓤 𝓛.H (LimitAt 𝓛 𝓜.mem 𝓡.run) 𝓜 𝓡 code.env #limit-at limit-at-def.routine code.calls-step::runs::limit-at (limit-at-thm.met 𝓤 𝓛 𝓜 𝓡))
+    (cited 𝓤 𝓛.H (StopAt 𝓛 𝓜.mem 𝓡.run) 𝓜 𝓡 code.env #stop-at stop-at-def.routine code.calls-step::runs::stop-at (stop-at-thm.met 𝓤 𝓛 𝓜 𝓡))
     (cited 𝓤 𝓛.H (Begin 𝓛 𝓜.mem 𝓡.run) 𝓜 𝓡 code.env #begin begin-def.routine code.calls-step::runs::begin (begin-thm.met 𝓤 𝓛 𝓜 𝓡))
     (cited 𝓤 𝓛.H (Advance 𝓛 𝓜.mem 𝓡.run) 𝓜 𝓡 code.env #advance advance-def.routine code.calls-step::runs::advance (advance-thm.met 𝓤 𝓛 𝓜 𝓡))
     (record {
       done = cited 𝓤 𝓛.H (AllDone 𝓛 𝓜.mem 𝓡.run) 𝓜 𝓡 code.env #all-done all-done-def.routine code.calls-step::runs::all-done (all-done-thm.met 𝓤 𝓛 𝓜 𝓡);
       before = cited 𝓤 𝓛.H (Before 𝓛 𝓜.mem 𝓡.run) 𝓜 𝓡 code.env #place-before place-before-def.routine code.calls-step::runs::place-before (place-before-thm.met 𝓤 𝓛 𝓜 𝓡);
-      line = cited 𝓤 𝓛.H (LineOf 𝓛 𝓜.mem 𝓡.run) 𝓜 𝓡 code.env #line-of line-of-def.routine code.calls-step::runs::line-of (line-of-thm.met 𝓤 𝓛 𝓜 𝓡);
       none = cited 𝓤 𝓛.H (Nowhere 𝓛 𝓜.mem 𝓡.run) 𝓜 𝓡 code.env #nowhere nowhere-def.routine code.calls-step::runs::nowhere (nowhere-thm.met 𝓤 𝓛 𝓜 𝓡);
       fetched = cited 𝓤 𝓛.H (Fetch 𝓛 𝓜.mem 𝓡.run) 𝓜 𝓡 code.env #fetch fetch-def.routine code.calls-step::lent::fetch (fetch-thm.met 𝓤 𝓛 𝓜 𝓡);
       left = cited 𝓤 𝓛.H (LeftOff 𝓛 𝓜.mem 𝓡.run) 𝓜 𝓡 code.env #left-off left-off-def.routine code.calls-step::runs::left-off (left-off-thm.met 𝓤 𝓛 𝓜 𝓡);

@@ -1,4 +1,4 @@
--- `step::lent::run_one` meets its contract: a walk of its MIR, by hand. The step is put twice into a local array, and `run_in` is called with a slice of it (`calls_with`) and the two references to registers, which are handed on for good. All that the walk knows of `run_in` is that it meets its contract.
+-- `step::lent::run_one` meets its contract: a walk of its MIR, by hand. The step is put into a local array, and `run_in` is called with a slice of it (`calls_with`) and the two references to registers, which are handed on for good. All that the walk knows of `run_in` is that it meets its contract.
 -- Assumes nothing.
 use Rattle.std.proofs.Common.{◌≡◌, ℕ, T as Holds, List, [], ◌∷◌, sym, refl, subst, arith, MutBor}
 use seplogic.Ra.Ura.{Ura}
@@ -78,18 +78,18 @@ module _ {M : Type 1} {𝓤 : Ura M} (𝓛 : Logic 𝓤) (mem : Memory → SProp
   abbrev Closed : After → List (Item 𝓤)
   Closed r = ‵ (flft κ₀ q₀) ∷ ‵ (flft κ₁ q₁) ∷ ‵ (fres δ (Regs.coded.code r.1.0)) ∷ ‵ (fres ε (Regs.coded.code r.1.1)) ∷ []
 
-  exits : (r : After) → ran_in r.0 r.1.0 r.1.1 ≡ run_of perform_of (step ∷ step ∷ []) (held d a f) 0 1 → Is L.the_row r.0 (l_val r.0 ∷ []) → ent 𝓤 (⋆ 𝓛 (Closed r)) (Post (l_val r.0))
+  exits : (r : After) → ran_in r.0 r.1.0 r.1.1 ≡ run_of perform_of (step ∷ []) (held d a f) 0 1 → Is L.the_row r.0 (l_val r.0 ∷ []) → ent 𝓤 (⋆ 𝓛 (Closed r)) (Post (l_val r.0))
   exits r e pr =
       qed 𝓛 (Closed r) ∵
       suffices ! _ (ends_at 𝓛 run-one.ended stayed (run-one.clauses 𝓛 mem run) (((κ₀, (κ₁, tt)), (q₀, (q₁, tt)), tt, x, at), tt) (l_val r.0) r.0 (tt, (r.1.0, (r.1.1, (tt, tt)))) (tt, (tt, (tt, (tt, tt))))) $ says ! e $
       nothing ! $ move ! (2 ∷ 0 ∷ []) $ join ! $ move ! (1 ∷ 0 ∷ []) $ join ! $ frame ! $ nothing ! $ nothing ! $ fjoin ! $ move ! (2 ∷ 0 ∷ []) $ fjoin ! $ move ! (1 ∷ 0 ∷ []) $ fjoin ! $ nothing ! $ fjoin ! $ frame ! $
       owned ! L.the_row (Is L.the_row) ((LL.makes L.the_type L'.the_plain) 𝓛) r.0 _ pr $ done !
 
-  -- the array of the step twice
-  is_steps : Is (Array T.the_row 2) (step ∷ step ∷ []) (steps_val (step ∷ step ∷ []) ∷ [])
-  is_steps = (t_val step ∷ t_val step ∷ [], ((refl, refl), (pt, (pt, tt))))
+  -- the array of the one step
+  is_steps : Is (Array T.the_row 1) (step ∷ []) (steps_val (step ∷ []) ∷ [])
+  is_steps = (t_val step ∷ [], ((refl, refl), (pt, tt)))
 
-  room : Room T.the_row 2
+  room : Room T.the_row 1
   room = (omega arith, omega arith)
 
   module _ (𝓣 : Tables 𝓤 H) (known : Triple 𝓤 (𝓣.C #run-in) (RunIn 𝓛 mem run)) (l₀ l₁ l₂ l₃ l₄ l₅ l₆ l₇ l₈ l₉ : ℕ) where
@@ -100,17 +100,17 @@ module _ {M : Type 1} {𝓤 : Ura M} (𝓛 : Logic 𝓤) (mem : Memory → SProp
     Λ = 𝓣.Λ
 
     abbrev En : Env 𝓤 H
-    En = (L'.mir, l₀) ∷ (T'.mir, l₁) ∷ (ref_at 0, l₂) ∷ (ref_at 1, l₃) ∷ (F'.mir, l₄) ∷ (steps 2, l₅) ∷ (ref_steps 2, l₆) ∷ (slice_steps, l₇) ∷ (ref, l₈) ∷ (ref, l₉) ∷ []
+    En = (L'.mir, l₀) ∷ (T'.mir, l₁) ∷ (ref_at 0, l₂) ∷ (ref_at 1, l₃) ∷ (F'.mir, l₄) ∷ (steps 1, l₅) ∷ (ref_steps 1, l₆) ∷ (slice_steps, l₇) ∷ (ref, l₈) ∷ (ref, l₉) ∷ []
 
     -- the array, the slice, the call, and the return
-    calls : Sq 𝓛 (‵ (froom ref l₉ 0) ∷ ‵ (fdies ref l₉) ∷ ‵ (froom ref l₈ 0) ∷ ‵ (fdies ref l₈) ∷ ‵ (froom slice_steps l₇ 0) ∷ ‵ (fdies slice_steps l₇) ∷ ‵ (froom (ref_steps 2) l₆ 0) ∷ ‵ (fdies (ref_steps 2) l₆) ∷ ‵ (froom (steps 2) l₅ 0) ∷ ‵ (fdies (steps 2) l₅) ∷ ‵ (fat full_share F'.mir l₄ 0 (f_val f)) ∷ ‵ (fdies F'.mir l₄) ∷ ‵ (fat full_share (ref_at 1) l₃ 0 (vptr l' p')) ∷ ‵ (fdies (ref_at 1) l₃) ∷ ‵ (fat full_share (ref_at 0) l₂ 0 (vptr l p)) ∷ ‵ (fdies (ref_at 0) l₂) ∷ ‵ (fat full_share T'.mir l₁ 0 (t_val step)) ∷ ‵ (fdies T'.mir l₁) ∷ ‵ (froom L'.mir l₀ 0) ∷ ‵ (fdies L'.mir l₀) ∷ ‵ (flft κ₀ q₀) ∷ ‵ (flft κ₁ q₁) ∷ ‵ (ref_own 𝓛 (named 0) κ₀ l p δ d) ∷ ‵ (ref_own 𝓛 (named 1) κ₁ l' p' ε a) ∷ [])
+    calls : Sq 𝓛 (‵ (froom ref l₉ 0) ∷ ‵ (fdies ref l₉) ∷ ‵ (froom ref l₈ 0) ∷ ‵ (fdies ref l₈) ∷ ‵ (froom slice_steps l₇ 0) ∷ ‵ (fdies slice_steps l₇) ∷ ‵ (froom (ref_steps 1) l₆ 0) ∷ ‵ (fdies (ref_steps 1) l₆) ∷ ‵ (froom (steps 1) l₅ 0) ∷ ‵ (fdies (steps 1) l₅) ∷ ‵ (fat full_share F'.mir l₄ 0 (f_val f)) ∷ ‵ (fdies F'.mir l₄) ∷ ‵ (fat full_share (ref_at 1) l₃ 0 (vptr l' p')) ∷ ‵ (fdies (ref_at 1) l₃) ∷ ‵ (fat full_share (ref_at 0) l₂ 0 (vptr l p)) ∷ ‵ (fdies (ref_at 0) l₂) ∷ ‵ (fat full_share T'.mir l₁ 0 (t_val step)) ∷ ‵ (fdies T'.mir l₁) ∷ ‵ (froom L'.mir l₀ 0) ∷ ‵ (fdies L'.mir l₀) ∷ ‵ (flft κ₀ q₀) ∷ ‵ (flft κ₁ q₁) ∷ ‵ (ref_own 𝓛 (named 0) κ₀ l p δ d) ∷ ‵ (ref_own 𝓛 (named 1) κ₁ l' p' ε a) ∷ [])
         (runs C Λ En (code.function).body (at_ret En Post))
     calls =
-        assigns ! (agg ! (and_then ! (load ! (from ! (stop !)) (look ! 16 refl)) (and_then ! (load ! (from ! (stop !)) (look ! 16 refl)) (no_more !)))) (from ! (stop !)) (init ! 8 refl ((Array-Lawful 𝓛 T.the_row (LL.lawful T.the_type T'.the_laws 𝓛) 2).typed (step ∷ step ∷ []) _ is_steps).0) $
+        assigns ! (agg ! (and_then ! (load ! (from ! (stop !)) (look ! 16 refl)) (no_more !))) (from ! (stop !)) (init ! 8 refl ((Array-Lawful 𝓛 T.the_row (LL.lawful T.the_type T'.the_laws 𝓛) 1).typed (step ∷ []) _ is_steps).0) $
         assigns ! (addr ! (from ! (stop !))) (from ! (stop !)) (init ! 6 refl (tt, tt)) $
         assigns ! (agg ! (and_then ! (load ! (from ! (stop !)) (look ! 6 refl)) (and_then ! (lit ! tt) (no_more !)))) (from ! (stop !)) (init ! 4 refl (tt, (tt, (record { fits = omega arith }, tt)))) $
         assigns ! (addr ! (from ! (hop ! (look ! 14 refl) (stop !)))) (from ! (stop !)) (init ! 2 refl (tt, tt)) $ assigns ! (addr ! (from ! (hop ! (look ! 12 refl) (stop !)))) (from ! (stop !)) (init ! 0 refl (tt, tt)) $
-        move ! (20 ∷ 21 ∷ 22 ∷ 23 ∷ 8 ∷ []) $ calls_with 𝓛 mem run 2 l₅ (step ∷ step ∷ []) [] κ₀ κ₁ q₀ q₁ l p δ d l' p' ε a f 0 1 ! (fm_of 𝓤 H 𝓛.laws 𝓣) known is_steps room pf (omega arith) (omega arith)
+        move ! (20 ∷ 21 ∷ 22 ∷ 23 ∷ 8 ∷ []) $ calls_with 𝓛 mem run 1 l₅ (step ∷ []) [] κ₀ κ₁ q₀ q₁ l p δ d l' p' ε a f 0 1 ! (fm_of 𝓤 H 𝓛.laws 𝓣) known is_steps room pf (omega arith) (omega arith)
         (λ _ _. (and_then ! (load ! (from ! (stop !)) (look ! 7 refl)) (and_then ! (load ! (from ! (stop !)) (look ! 5 refl)) (and_then ! (load ! (from ! (stop !)) (look ! 3 refl)) (and_then ! (load ! (from ! (stop !)) (look ! 12 refl)) (and_then ! (lit ! tt) (and_then ! (lit ! tt) (no_more !)))))))) (λ v r e.
         land ! (from ! (stop !)) (init ! 22 refl (subst (λ (u : Val). Holds (has_ty L'.mir u) × WT u) (sym e.1.1) ((LL.lawful L.the_type L'.the_laws 𝓛).typed r.0 _ e.1.0).0)) $
         rewrite ! 22 (λ (u : Val). ‵ (fat full_share L'.mir l₀ 0 u)) e.1.1 refl $ returns ! (look ! 22 refl) $

@@ -11,12 +11,9 @@ returns-2 c = rw c.before.before.before.outcome.given.1 (rw c.before.place-befor
 returns-3 : tie.Need-returns-3
 returns-3 c = rw c.before.before.before.outcome2.given.1 (rw c.before.stood-at.ensures at c.halt3.ensures)
 
-returns-4 : tie.Need-returns-4
-returns-4 c = rw c.before.enum-told2.given.1 c.halt4.ensures
-
 pub halted_after_spec : {M : Type 1} → statement M
 halted_after_spec =
     tie.close
     (tie.spec
     (search rules) (search rules) (search rules) (search rules) (search rules) (search rules) (search rules) (search rules) (search rules)
-    (search rules) (search rules) returns returns-2 returns-3 returns-4)
+    returns returns-2 returns-3)

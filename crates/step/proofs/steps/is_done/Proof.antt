@@ -19,7 +19,6 @@ not_done keys h How.BadSmall hit = refl
 not_done keys h How.NoSuchSize hit = refl
 not_done keys h How.NoSuchRegister hit = refl
 not_done keys h How.StartPastEnd hit = refl
-not_done keys h How.Stopped hit = refl
 
 returns-2 : tie.Need-returns-2
 returns-2 c = not_done (1 ∷ 2 ∷ 3 ∷ []) tt c.before.args.came c.match.keys2
@@ -27,8 +26,5 @@ returns-2 c = not_done (1 ∷ 2 ∷ 3 ∷ []) tt c.before.args.came c.match.keys
 returns-3 : tie.Need-returns-3
 returns-3 c = not_done (4 ∷ 5 ∷ 6 ∷ 7 ∷ []) tt c.before.args.came c.match.keys3
 
-returns-4 : tie.Need-returns-4
-returns-4 c = rw c.enum-told2.given.1
-
 pub is_done_spec : {M : Type 1} → statement M
-is_done_spec = tie.close (tie.spec (search rules) (search rules) (λ c. search rules) returns-2 returns-3 returns-4)
+is_done_spec = tie.close (tie.spec (search rules) (λ c. search rules) returns-2 returns-3)

@@ -23,12 +23,9 @@ returns-7 c = rw c.enum-told7.given.1
 returns-8 : tie.Need-returns-8
 returns-8 c = rw c.enum-told8.given.1
 
-returns-9 : tie.Need-returns-9
-returns-9 c = rw c.enum-told9.given.1
-
 pub outcome_of_spec : {M : Type 1} → statement M
 outcome_of_spec =
     tie.close
     (tie.spec
-    (search rules) (search rules) (search rules) (search rules) (search rules) (search rules) (search rules) (search rules) (search rules) (λ c. search rules)
-    returns-2 returns-3 returns-4 returns-5 returns-6 returns-7 returns-8 returns-9)
+    (search rules) (search rules) (search rules) (search rules) (search rules) (search rules) (search rules) (search rules) (λ c. search rules)
+    returns-2 returns-3 returns-4 returns-5 returns-6 returns-7 returns-8)

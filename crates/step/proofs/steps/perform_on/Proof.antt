@@ -26,15 +26,10 @@ returns-7 c = rw c.before.before.before.form6.given.1 (c.step-bit.ensures c.befo
 returns-8 : tie.Need-returns-8
 returns-8 c = rw c.before.before.before.form7.given.1 (c.step-chk.ensures c.before.before.before.before.before.args.a.now)
 
-returns-9 : tie.Need-returns-9
-returns-9 c =
-    let start = c.before.before.before.before in
-    rw c.before.before.form8.given.1 (c.step-stop.ensures start.args.d.now start.args.a.now start.args.size)
-
 pub perform_on_spec : {M : Type 1} → statement M
 perform_on_spec =
     tie.close
     (tie.spec
     (search rules) (search rules) (search rules) (search rules) (search rules) (search rules) (search rules) (search rules) (search rules)
-    (search rules) (search rules) (search rules) (search rules) (search rules) (search rules) (search rules) (search rules) (search rules) (search rules) returns returns-2
-    returns-3 returns-4 returns-5 returns-6 returns-7 returns-8 returns-9)
+    (search rules) (search rules) (search rules) (search rules) (search rules) (search rules) (search rules) (search rules) returns returns-2
+    returns-3 returns-4 returns-5 returns-6 returns-7 returns-8)
