@@ -5,7 +5,7 @@ ghost use Rattle.alu.specs.Conditions.{condition_number, condition_at, condition
 use super::types::{Flags, ccr};
 
 // In the Manual's order, which is that of their numbers in an opcode.
-#[derive(Drop)]
+#[derive(Clone, Copy)]
 pub enum Condition {
     T,
     F,
@@ -26,7 +26,7 @@ pub enum Condition {
 }
 
 // The condition of a number, if it names one.
-#[derive(Drop)]
+#[derive(Clone, Copy)]
 pub enum ConditionFound {
     Is(Condition),
     NoCondition,

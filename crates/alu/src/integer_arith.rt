@@ -21,7 +21,7 @@ use super::types::{
 };
 
 // A result and its flags.
-#[derive(Drop)]
+#[derive(Clone, Copy)]
 struct Sum {
     result: u32,
     flags: Flags,

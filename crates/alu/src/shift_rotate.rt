@@ -12,7 +12,7 @@ use super::types::{
     Answer, Flags, Size, Verdict, accepted, digit, figure, masked, refused, result_flags, top,
 };
 
-#[derive(Drop)]
+#[derive(Clone, Copy)]
 pub enum ShiftOp {
     Asl,
     Asr,
@@ -25,7 +25,7 @@ pub enum ShiftOp {
 }
 
 // An operand and the bit that went out of it last; before the first position that is X.
-#[derive(Drop)]
+#[derive(Clone, Copy)]
 pub struct Held {
     pub value: u32,
     pub out: bool,

@@ -6,7 +6,7 @@ ghost use Rattle.alu.specs.ConditionCodes.{result_flags, flags_of, ccr_of};
 ghost use Rattle.alu.specs.Answers.{number_of, class_of, accepted, refused, figure};
 
 // The size of an operation: 8, 16 or 32 bits.
-#[derive(Drop)]
+#[derive(Clone, Copy)]
 pub enum Size {
     Byte,
     Word,
@@ -14,7 +14,7 @@ pub enum Size {
 }
 
 // The condition codes: extend, negative, zero, overflow, carry.
-#[derive(Drop)]
+#[derive(Clone, Copy)]
 pub struct Flags {
     pub x: bool,
     pub n: bool,
@@ -24,7 +24,7 @@ pub struct Flags {
 }
 
 // Whether an operation was accepted. BadCount and NoSuchSize are document 01's refusals 1 and 2.
-#[derive(Drop)]
+#[derive(Clone, Copy)]
 pub enum Verdict {
     Accepted,
     BadCount,
@@ -32,7 +32,7 @@ pub enum Verdict {
 }
 
 // What an operation hands back. `clocks` is document 01's clock figure.
-#[derive(Drop)]
+#[derive(Clone, Copy)]
 pub struct Answer {
     pub verdict: Verdict,
     pub result: u32,
@@ -42,7 +42,7 @@ pub struct Answer {
 
 // CHK's class. Over: the value is above the bound. Below: it is below 0. Short: it is below 0 too, and
 // value - bound overflows, which the crate m68k traps on the short path of Over. These three are traps.
-#[derive(Drop)]
+#[derive(Clone, Copy)]
 pub enum Check {
     Pass,
     Over,
@@ -51,7 +51,7 @@ pub enum Check {
 }
 
 // What CHK hands back.
-#[derive(Drop)]
+#[derive(Clone, Copy)]
 pub struct Checked {
     pub check: Check,
     pub answer: Answer,
@@ -81,7 +81,7 @@ pub fn class(check: Check) -> u32
 }
 
 // A size in numbers: all its bits, and the highest.
-#[derive(Drop)]
+#[derive(Clone, Copy)]
 pub struct Width {
     pub mask: u32,
     pub top: u32,

@@ -1,11 +1,13 @@
 // Replays the Rust crate's frozen answers against the packed calls. Each file of data/ has lines of
 // 43 bytes, made by `compare/run vectors`; compare/README.md has their format. A line with another
 // answer is written out with what came instead; the file `stdout` has the count of each file.
+#![tactic(auto)]
+
 mod line;
 
 use libc::STDOUT_FILENO;
 
-#[derive(Drop)]
+#[derive(Clone, Copy)]
 struct Tally {
     cases: u64,
     failed: u64,

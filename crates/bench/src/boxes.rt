@@ -35,7 +35,7 @@ const STEPS: usize = 29;
 const CLOCKS: usize = 37;
 
 // What the words of a line ask for, and how the last that was read was taken, which stands from `at` to `end`.
-#[derive(Drop)]
+#[derive(Clone, Copy)]
 struct Line {
     asked: Asked,
     last: Taking,

@@ -3,6 +3,8 @@
 // output gets a table for people (table.rt) or plain rows (rows.rt), or, with a file of boxes, a row for each box (boxes.rt);
 // and of a refused recipe its refusal, with the table's place taken by what is wrong (slips.rt). Where a word is not
 // understood, or reading or writing fails, standard error says so.
+#![tactic(auto)]
+
 mod boxes;
 mod carry;
 mod course;

@@ -4,14 +4,14 @@ ghost use Rattle.std.specs.Prelude.{◌*◌, ◌^◌, ◌<◌, ◌≤◌};
 use crate::pen::{BLANK, Pen, put, put_byte, put_decimal, put_hex};
 
 // A long word divided by 10, with what the higher ones left.
-#[derive(Drop)]
+#[derive(Clone, Copy)]
 struct Share {
     quotient: u32,
     rest: u64,
 }
 
 // A number divided by 10: its quotient, and its last digit.
-#[derive(Drop)]
+#[derive(Clone, Copy)]
 struct Tenth {
     quotient: [u32; 4],
     digit: u8,

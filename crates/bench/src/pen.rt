@@ -11,7 +11,7 @@ pub(crate) use text::types::{BLANK, TAB};
 const LINE_ROOM: usize = 256;
 
 // A line as far as it is written, and the place to write at.
-#[derive(Drop)]
+#[derive(Clone, Copy)]
 pub(crate) struct Pen {
     pub line: [u8; LINE_ROOM],
     pub at: usize,

@@ -23,7 +23,7 @@ const BOXES: usize = 24;
 pub(crate) const WORD_ROOM: usize = 1024;
 
 // What is asked for: the state to start with, the start place, the steps that may be done, and whether as plain rows.
-#[derive(Drop)]
+#[derive(Clone, Copy)]
 pub(crate) struct Asked {
     pub state: State,
     pub from: usize,
@@ -32,7 +32,7 @@ pub(crate) struct Asked {
 }
 
 // All words of the program: `file` is the number of the word that names a file of boxes, 0 where none does.
-#[derive(Drop)]
+#[derive(Clone, Copy)]
 pub(crate) struct Words {
     pub asked: Asked,
     pub file: usize,
@@ -40,7 +40,7 @@ pub(crate) struct Words {
 }
 
 // How a word was taken: not where it is not understood, or gives a thing that was given before.
-#[derive(Drop)]
+#[derive(Clone, Copy)]
 pub(crate) enum Taking {
     Taken,
     Unknown,
@@ -48,7 +48,7 @@ pub(crate) enum Taking {
 }
 
 // What the words so far ask for, the things that they gave, and how the last of them was taken.
-#[derive(Drop)]
+#[derive(Clone, Copy)]
 pub(crate) struct Said {
     pub asked: Asked,
     pub given: [bool; THINGS],
@@ -56,7 +56,7 @@ pub(crate) struct Said {
 }
 
 // What one word says. A register comes with its number and its value, a flag with its letter and whether it is set.
-#[derive(Drop)]
+#[derive(Clone, Copy)]
 enum Word {
     Data(usize, u32),
     Address(usize, u32),
@@ -68,13 +68,13 @@ enum Word {
     Unknown,
 }
 
-#[derive(Drop)]
+#[derive(Clone, Copy)]
 enum Decimal {
     Is(u64),
     Bad,
 }
 
-#[derive(Drop)]
+#[derive(Clone, Copy)]
 enum Hex {
     Is(u32),
     Bad,

@@ -1,5 +1,7 @@
 // The operations for Rust and C, packed: every argument and the answer are numbers, laid out as
 // `specs/Packed.antt` says. A number that names no operation or no size is refused with 2.
+#![tactic(auto)]
+
 ghost use Rattle.std.specs.Prelude.{◌≡◌, ◌^◌, ◌<◌, ◌≤◌};
 ghost use Rattle.alu.specs.ConditionCodes.{flags_of};
 ghost use Rattle.alu.specs.Answers.{number_of, class_of};
@@ -17,7 +19,7 @@ use alu::shift_rotate::{
 use alu::types::{Answer, Check, Checked, Size, Verdict, ccr, class, flags_of, number, refused};
 
 // A size by its number, if it names one.
-#[derive(Drop)]
+#[derive(Clone, Copy)]
 enum Found {
     Is(Size),
     NoSize,

@@ -71,7 +71,7 @@ fn next(state: u64, b: u8) -> u64 {
 }
 
 // How long a text is, and where its field ends.
-#[derive(Drop)]
+#[derive(Clone, Copy)]
 pub(crate) struct Text {
     pub length: usize,
     pub end: usize,
@@ -111,7 +111,7 @@ pub(crate) fn text_of(row: &[u8], tab: usize, out: &mut [u8]) -> Text
 }
 
 // The last number of a row so far: its column and value, and whether it has no digit yet; and whether all is well so far.
-#[derive(Drop)]
+#[derive(Clone, Copy)]
 struct Number {
     column: usize,
     value: u64,

@@ -1,6 +1,8 @@
 // Runs the cases of data/, a row for each: recipe texts and what is printed for them (refusals.tsv), runs of listings
 // (runs.tsv), and recipes run by one call (recipes.tsv). A row has fields parted by tabs, its name first; a line
 // that begins with # is none. A row that fails, or does not read, is told with its name, its file and its line.
+#![tactic(auto)]
+
 mod fields;
 mod runs;
 mod texts;
@@ -15,14 +17,14 @@ const FILE: usize = 65536;
 
 const LAST: usize = FILE - 1;
 
-#[derive(Drop)]
+#[derive(Clone, Copy)]
 enum Kind {
     Refusals,
     Runs,
     Recipes,
 }
 
-#[derive(Drop)]
+#[derive(Clone, Copy)]
 struct Tally {
     lines: u64,
     cases: u64,

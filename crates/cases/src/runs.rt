@@ -15,7 +15,7 @@ const WORDS: u64 = 300;
 const ADD: u64 = 0x01_0002_0200;
 
 // A state, and what is told of the run that led to it.
-#[derive(Drop)]
+#[derive(Clone, Copy)]
 struct Run {
     d: [u32; 8],
     a: [u32; 8],

@@ -1,9 +1,11 @@
 // Standard input, and a file that is open, as the programs read them.
+#![tactic(auto)]
+
 ghost use Rattle.std.specs.Prelude.{◌≤◌, length};
 ghost use Rattle.io.specs.Counts.{IsPrefixLen};
 
 // So many bytes were read; `ok` is false where a read failed.
-#[derive(Drop)]
+#[derive(Clone, Copy)]
 pub struct Input {
     pub n: usize,
     pub ok: bool,

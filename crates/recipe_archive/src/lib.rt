@@ -1,6 +1,8 @@
 // The functions of recipe_calls for C and Rust to link, beside `alu_call` of calls; bindings/c/gromavelush.h declares them. Each hands its
 // arguments on, and promises word for word what that of recipe_calls promises. They are a crate of their own because whoever makes an archive proves
 // its crate again: so that is this page, and not recipe_calls.
+#![tactic(auto)]
+
 ghost use Rattle.std.specs.Prelude.{◌≡◌};
 ghost use Rattle.text.specs.Wrote.{written, writing};
 ghost use Rattle.recipes.specs.Printer.{listing_text, answer_of};

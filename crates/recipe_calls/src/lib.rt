@@ -4,6 +4,8 @@
 //
 // Every function takes every input: none has a `requires`. A word that names no step stands for one that is refused
 // with 2.
+#![tactic(auto)]
+
 mod rows;
 mod words;
 

@@ -11,7 +11,7 @@ use step::forms::{
 use step::registers::{A, D};
 
 // A form, where an operation and its operands make one.
-#[derive(Drop)]
+#[derive(Clone, Copy)]
 pub(crate) enum Made {
     Is(Form),
     NoForm,

@@ -14,7 +14,7 @@ use text::types::{Hex, NEWLINE, TAB};
 const FIELDS: usize = 41;
 
 // A place behind some of the lines, and what ought to stand there: data registers, flags and which of them count.
-#[derive(Drop)]
+#[derive(Clone, Copy)]
 pub(crate) struct Middle {
     pub place: u32,
     pub data: [u32; 8],
@@ -24,7 +24,7 @@ pub(crate) struct Middle {
 
 // The state that a recipe is run on, and what it ought to give: data registers, flags and which of them count, steps and clocks;
 // and the middle. The address registers ought to stay.
-#[derive(Drop)]
+#[derive(Clone, Copy)]
 pub(crate) struct Vector {
     pub before: State,
     pub data: [u32; 8],

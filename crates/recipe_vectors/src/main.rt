@@ -2,6 +2,8 @@
 // which tells registers and flags at the end and at the middle, a place behind some of the lines. Standard input has the
 // vectors that `tools/recipe-vectors` makes; the file `stdin` has some of them. A vector that fails is written out with its
 // number and what failed first; one that is no vector ends the reading.
+#![tactic(auto)]
+
 mod header;
 mod replay;
 
@@ -13,7 +15,7 @@ use libc::{STDIN_FILENO, STDOUT_FILENO};
 use recipes::types::TEXT_MAX;
 use replay::{Replayed, Slip, is_slip, replay, without_run};
 
-#[derive(Drop)]
+#[derive(Clone, Copy)]
 struct Tally {
     recipes: u64,
     runs: u64,
@@ -21,14 +23,14 @@ struct Tally {
 }
 
 // What came from standard input: its end, no vector, or a vector with a text of so many bytes.
-#[derive(Drop)]
+#[derive(Clone, Copy)]
 enum Came {
     End,
     Malformed,
     Whole,
 }
 
-#[derive(Drop)]
+#[derive(Clone, Copy)]
 struct Input {
     came: Came,
     length: usize,

@@ -12,7 +12,7 @@ use step::forms::Step;
 use step::runs::{End, Ran, SLOTS, begun, resumed};
 
 // What is not as it ought to be.
-#[derive(Drop)]
+#[derive(Clone, Copy)]
 pub(crate) enum Slip {
     Nothing,
     Malformed,
@@ -30,7 +30,7 @@ pub(crate) enum Slip {
 }
 
 // The runs made, the first slip, and the place that the run was halted at.
-#[derive(Drop)]
+#[derive(Clone, Copy)]
 pub(crate) struct Replayed {
     pub runs: u64,
     pub slip: Slip,

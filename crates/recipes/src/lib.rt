@@ -3,6 +3,8 @@
 //
 // Every public function takes every input: none has a `requires`. Each has one `ensures`, an equation that gives its
 // whole answer and all that is lent to it, by a definition of specs/. Nothing is assumed.
+#![tactic(auto)]
+
 pub mod lent;
 pub mod lines;
 pub mod printer;

@@ -9,7 +9,7 @@ use alu::shift_rotate::ShiftOp;
 use step::forms::{OneOp, TwoOp};
 
 // What is done at a register: of the target alone, of source and target, or a shift by 1.
-#[derive(Drop)]
+#[derive(Clone, Copy)]
 pub(crate) enum Act {
     One(OneOp),
     Two(TwoOp),
@@ -19,7 +19,7 @@ pub(crate) enum Act {
 // How a verb is done: whether it takes two numbers; whether a CLR stands before each of its steps; its step at the first
 // register that it takes, and at each other; whether it takes the highest register first; whether all five flags behind
 // it are told.
-#[derive(Drop)]
+#[derive(Clone, Copy)]
 pub(crate) struct Way {
     pub takes_two: bool,
     pub clears: bool,

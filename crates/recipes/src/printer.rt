@@ -41,7 +41,7 @@ fn size_name(size: Size) -> [u8; 4]
 }
 
 // What stands in an operand's field: a mark and a number, or none.
-#[derive(Drop)]
+#[derive(Clone, Copy)]
 enum Operand {
     Numbered(u8, u8),
     Absent,

@@ -15,14 +15,14 @@ use text::parts::{first, same};
 use text::types::{Digit, NEWLINE, TAB};
 
 // What a text line is read as: a recipe line, or why it is none, with the column.
-#[derive(Drop)]
+#[derive(Clone, Copy)]
 pub(crate) enum LineRead {
     Read(Line),
     Slip(Refusal, usize),
 }
 
 // What a field in the verb's place is.
-#[derive(Drop)]
+#[derive(Clone, Copy)]
 pub(crate) enum VerbRead {
     Known(Verb),
     Unknown,

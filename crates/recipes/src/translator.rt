@@ -18,7 +18,7 @@ use step::runs::SLOTS;
 use step::steps::perform;
 
 // What the steps of a line have in common: its way, the lowest registers of its numbers, and how many steps there are.
-#[derive(Drop)]
+#[derive(Clone, Copy)]
 pub(crate) struct Job {
     pub way: Way,
     pub from: usize,

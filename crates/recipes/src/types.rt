@@ -18,7 +18,7 @@ pub const TEXT_MAX: usize = 1024;
 // Room for what is printed of any recipe (`answer_short` of proofs/Room).
 pub const PRINT_MAX: usize = 24576;
 
-#[derive(Drop)]
+#[derive(Clone, Copy)]
 pub enum Verb {
     Clear,
     Copy,
@@ -32,7 +32,7 @@ pub enum Verb {
 }
 
 // A recipe line. A verb that takes one number has it in `a`, and `b` doesn't count; the reader makes it 0.
-#[derive(Drop)]
+#[derive(Clone, Copy)]
 pub struct Line {
     pub verb: Verb,
     pub a: u8,
@@ -40,7 +40,7 @@ pub struct Line {
 }
 
 // The first `count` of `lines` are the recipe's; the reader makes the others `clear 0`.
-#[derive(Drop)]
+#[derive(Clone, Copy)]
 pub struct Recipe {
     pub width: u8,
     pub count: usize,
@@ -48,7 +48,7 @@ pub struct Recipe {
 }
 
 // Why a text or a recipe is refused: 4, 6 to 9 of document 01 and 11 to 14 of document 02; `Nothing` is 0.
-#[derive(Drop)]
+#[derive(Clone, Copy)]
 pub enum Refusal {
     Nothing,
     WidthLine,
@@ -64,7 +64,7 @@ pub enum Refusal {
 
 // A refusal, the text line that it is of, and the column in it, in bytes; both count from 1. The line is 0 where none is to
 // blame, the column for every refusal but 11 to 14, and both are where nothing is refused.
-#[derive(Drop)]
+#[derive(Clone, Copy)]
 pub struct Refused {
     pub refusal: Refusal,
     pub line: usize,
@@ -72,7 +72,7 @@ pub struct Refused {
 }
 
 // What the reader answers. A refused text has a recipe of width 1 and no lines.
-#[derive(Drop)]
+#[derive(Clone, Copy)]
 pub struct Reading {
     pub refused: Refused,
     pub recipe: Recipe,
@@ -80,14 +80,14 @@ pub struct Reading {
 
 // What the translator says: its refusal, and the number of steps, 0 where it refuses. Line k, from 0, counts as text line
 // k + 2 and the width as line 1; too many lines and too little room have line 0.
-#[derive(Drop)]
+#[derive(Clone, Copy)]
 pub struct Translated {
     pub refused: Refused,
     pub count: usize,
 }
 
 // The same with the listing by value: its first `count` slots. The others are blank.
-#[derive(Drop)]
+#[derive(Clone, Copy)]
 pub struct Listing {
     pub refused: Refused,
     pub count: usize,
@@ -96,7 +96,7 @@ pub struct Listing {
 
 // What is told of all five flags. After add, sub and neg they are known: those of the whole number. After any other line
 // document 01 promises X alone. With no line, and where a recipe is refused, they are known: as they were.
-#[derive(Drop)]
+#[derive(Clone, Copy)]
 pub enum Codes {
     Open,
     Known(Flags),
@@ -104,7 +104,7 @@ pub enum Codes {
 
 // What came of a recipe that was run: its refusal; the registers, X, and what is told of all flags; the steps done and the
 // sum of their figures. A refused recipe leaves the state as it was.
-#[derive(Drop)]
+#[derive(Clone, Copy)]
 pub struct RecipeRun {
     pub refused: Refused,
     pub d: [u32; 8],

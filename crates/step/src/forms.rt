@@ -11,7 +11,7 @@ use alu::types::Size;
 
 // The operations of document 01's forms table, row by row: on two data registers, on an address register, with a small
 // number, on one data register.
-#[derive(Drop)]
+#[derive(Clone, Copy)]
 pub enum TwoOp {
     Add,
     Sub,
@@ -20,20 +20,20 @@ pub enum TwoOp {
     Subx,
 }
 
-#[derive(Drop)]
+#[derive(Clone, Copy)]
 pub enum AddressOp {
     Adda,
     Suba,
     Cmpa,
 }
 
-#[derive(Drop)]
+#[derive(Clone, Copy)]
 pub enum QuickOp {
     Addq,
     Subq,
 }
 
-#[derive(Drop)]
+#[derive(Clone, Copy)]
 pub enum OneOp {
     Clr,
     Neg,
@@ -43,21 +43,21 @@ pub enum OneOp {
 }
 
 // A register of either kind.
-#[derive(Drop)]
+#[derive(Clone, Copy)]
 pub enum Register {
     Data(D),
     Address(A),
 }
 
 // A shift's count or a bit's number: a small number, or what a data register holds.
-#[derive(Drop)]
+#[derive(Clone, Copy)]
 pub enum Count {
     Small(u8),
     Data(D),
 }
 
 // The forms of document 01, source before destination. No other operand kind can be written.
-#[derive(Drop)]
+#[derive(Clone, Copy)]
 pub enum Form {
     Two(TwoOp, D, D),
     Address(AddressOp, Register, A),
@@ -70,7 +70,7 @@ pub enum Form {
 
 // `line` is the text line that a step comes from, 0 if it was given none. No test looks at it: it is printed, and a trap or a
 // refusal tells it.
-#[derive(Drop)]
+#[derive(Clone, Copy)]
 pub struct Step {
     pub size: Size,
     pub form: Form,
@@ -87,7 +87,7 @@ pub fn with_line(step: Step, line: u8) -> Step
 }
 
 // What a form does, apart from its operands. ADDQ and SUBQ on an address register are operations of their own.
-#[derive(Drop)]
+#[derive(Clone, Copy)]
 pub enum Operation {
     Two(TwoOp),
     Address(AddressOp),
@@ -100,7 +100,7 @@ pub enum Operation {
 }
 
 // The operation of a number, if it names one.
-#[derive(Drop)]
+#[derive(Clone, Copy)]
 pub enum Found {
     Is(Operation),
     NoOperation,

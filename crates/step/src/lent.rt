@@ -13,7 +13,7 @@ use super::steps::{Outcome, perform};
 use alu::types::Flags;
 
 // What one step says beside the state that it leaves.
-#[derive(Drop)]
+#[derive(Clone, Copy)]
 pub struct Told {
     pub outcome: Outcome,
     pub clocks: u32,

@@ -12,7 +12,7 @@ use super::runs::End;
 pub const BOXES_MAX: usize = 64;
 
 // What a run says of a box beside the state that it leaves.
-#[derive(Drop)]
+#[derive(Clone, Copy)]
 pub struct Boxed {
     pub end: End,
     pub next: usize,
@@ -21,14 +21,14 @@ pub struct Boxed {
 }
 
 // Whether a rack is run: more than `BOXES_MAX` sets, or fewer start places or slots than sets, are too many.
-#[derive(Drop)]
+#[derive(Clone, Copy)]
 pub enum Fit {
     Fits,
     TooMany,
 }
 
 // How a rack fits, and how many boxes are run.
-#[derive(Drop)]
+#[derive(Clone, Copy)]
 pub struct Racked {
     pub fit: Fit,
     pub boxes: usize,

@@ -5,15 +5,15 @@ ghost use Rattle.step.specs.Registers.{merged_of};
 use alu::types::{Flags, Size, width_of};
 
 // The number of a data register.
-#[derive(Drop)]
+#[derive(Clone, Copy)]
 pub struct D(pub u8);
 
 // The number of an address register. Neither can stand for the other.
-#[derive(Drop)]
+#[derive(Clone, Copy)]
 pub struct A(pub u8);
 
 // The registers and the flags.
-#[derive(Drop)]
+#[derive(Clone, Copy)]
 pub struct State {
     pub d: [u32; 8],
     pub a: [u32; 8],

@@ -16,7 +16,7 @@ use alu::types::{Flags, Size};
 pub const SLOTS: usize = 256;
 
 // How a run ends; a trap and a refusal with their place, and with the text line of the step there.
-#[derive(Drop)]
+#[derive(Clone, Copy)]
 pub enum End {
     Finished,
     Budget,
@@ -37,7 +37,7 @@ pub fn end_line(end: End) -> u8
 }
 
 // What a run hands back. `next` is the place to go on from; `clocks` is the sum of the steps' figures.
-#[derive(Drop)]
+#[derive(Clone, Copy)]
 pub struct Ran {
     pub end: End,
     pub state: State,
@@ -47,7 +47,7 @@ pub struct Ran {
 }
 
 // What a run on registers that are lent says beside them.
-#[derive(Drop)]
+#[derive(Clone, Copy)]
 pub struct Left {
     pub end: End,
     pub next: usize,
@@ -58,7 +58,7 @@ pub struct Left {
 
 // Where a run stands between two steps: whether it goes on, how the last step came out, the place behind it, the figures
 // so far, and the flags. The registers are not in it: each step is lent them.
-#[derive(Drop)]
+#[derive(Clone, Copy)]
 pub(crate) struct Course {
     pub going: bool,
     pub came: Came,
@@ -161,7 +161,7 @@ pub(crate) fn all_done(on: Course) -> bool
 }
 
 // How a run ends, and where it would go on.
-#[derive(Drop)]
+#[derive(Clone, Copy)]
 struct Halted {
     end: End,
     next: usize,

@@ -30,7 +30,7 @@ use alu::shift_rotate::{
 use alu::types::{Answer, Check, Flags, Size, accepted, figure};
 
 // Why a step, or a run, is refused: document 01's numbers 1, 2, 3 and 10.
-#[derive(Drop)]
+#[derive(Clone, Copy)]
 pub enum Fault {
     BadSmall,
     NoSuchSize,
@@ -39,14 +39,14 @@ pub enum Fault {
 }
 
 // The class of a CHK that traps.
-#[derive(Drop)]
+#[derive(Clone, Copy)]
 pub enum Trap {
     Over,
     Short,
     Below,
 }
 
-#[derive(Drop)]
+#[derive(Clone, Copy)]
 pub enum Outcome {
     Done,
     Trapped(Trap),
@@ -54,7 +54,7 @@ pub enum Outcome {
 }
 
 // What a step hands back: its outcome, the registers and flags after it, its clock figure.
-#[derive(Drop)]
+#[derive(Clone, Copy)]
 pub struct Performed {
     pub outcome: Outcome,
     pub state: State,
@@ -62,7 +62,7 @@ pub struct Performed {
 }
 
 // How a step comes out, in one byte: the two of an `Outcome` are packed into a number and taken apart at each step.
-#[derive(Drop)]
+#[derive(Clone, Copy)]
 pub(crate) enum Came {
     Done,
     Over,
@@ -75,14 +75,14 @@ pub(crate) enum Came {
 }
 
 // A shift's count or a bit's number: whether it may be, and its value.
-#[derive(Drop)]
+#[derive(Clone, Copy)]
 struct Counted {
     fits: bool,
     value: u32,
 }
 
 // What a step says beside the registers that it leaves.
-#[derive(Drop)]
+#[derive(Clone, Copy)]
 pub(crate) struct Acted {
     pub came: Came,
     pub flags: Flags,

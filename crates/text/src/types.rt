@@ -5,19 +5,19 @@ pub const NEWLINE: u8 = 10;
 
 pub const BLANK: u8 = 32;
 
-#[derive(Drop)]
+#[derive(Clone, Copy)]
 pub enum Digit {
     Is(u8),
     Bad,
 }
 
-#[derive(Drop)]
+#[derive(Clone, Copy)]
 pub enum Decimal {
     Is(u64),
     Bad,
 }
 
-#[derive(Drop)]
+#[derive(Clone, Copy)]
 pub enum Hex {
     Is(u32),
     Bad,
