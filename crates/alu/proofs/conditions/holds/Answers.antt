@@ -1,0 +1,6 @@
+-- `conditions::holds` meets its contract: the bit that it reads is the formula, by the table's law. Assumes nothing.
+use Rattle.alu.proofs.ConditionTable.{table_holds}
+use Rattle.alu.proofs.conditions.holds.Goals as goal
+
+pub returns : goal.returns
+returns c = rw (c.number-i.ensures, c.ccr-setting.ensures) (table_holds c.args.condition c.args.flags)

@@ -1,0 +1,16 @@
+-- `roxl` meets its contract: the ring of the bits and X goes round.
+-- Assumes nothing.
+use mathlib.Core.Path.{sym, ap, ◌∙◌}
+use Rattle.alu.specs.Bits.{bits_of}
+use Rattle.alu.specs.Shifts.{start}
+use Rattle.alu.specs.Places.{from_above}
+use Rattle.alu.proofs.Bounds.{bits_pos, low_lt}
+use Rattle.alu.proofs.Rings.{roxl_turns}
+use Rattle.alu.proofs.shift_rotate.roxl.Goals as goal
+
+pub returns : goal.returns
+returns c =
+    let a = c.args in
+    let n = bits_of a.size in
+    let ring = rw (c.bits-places.ensures.0, c.round_x.ensures.0, c.above_of-ring.ensures.0) at c.turned_left.ensures.0 in
+    c.from_above.ensures ∙ ap (from_above n) ring ∙ sym (roxl_turns n (start n a.value a.x) (bits_pos a.size) (low_lt n a.value) a.k)
