@@ -14,14 +14,15 @@ use Rattle.text.proofs.Texts.{from, first_by}
 use Rattle.recipes.proofs.Columns.{past_first}
 use Rattle.recipes.proofs.LineByLine.{lines_many, lines_cut, lines_next, lines_done, padded_more}
 use Rattle.recipes.proofs.reader.read_lines.Goals as goal
-use Rattle.recipes.proofs.reader.read_lines.Goals.{Else-count-eq-LINES_MAX, After-read_line}
+use Rattle.recipes.proofs.reader.read_lines.Goals.{After-read_line}
+use Rattle.recipes.proofs.reader.read_lines.Invariants.{SoFar}
 
--- past the tests on the count
-room : (c : Else-count-eq-LINES_MAX) → length c.loop-left.invariant.ls < lines_max
-room c =
-    let s = c.loop-left.invariant in
+-- past the test on the count
+room : {width count : ℕ} {text left : List ℕ} {lines : List Line} → (s : SoFar width text lines count left) → (count ≡ lines_max → ⊥) → length s.ls < lines_max
+room s n =
     let m = s.many in
-    omega arith
+    let w = s.within in
+    omega (arith, n)
 
 -- a whole line was read
 turn : (c : After-read_line)
@@ -32,7 +33,7 @@ turn : (c : After-read_line)
     ≡ or_slip c.read_line.result (c.loop-left.count + 2) (λ x. lines_of w (c.loop-left.invariant.ls ++ (x ∷ [])) (before 10 rest) (after 10 rest))
 turn c =
     let s = c.loop-left.invariant in
-    let r = room (goal.at.returns-in-Slip c).Else-count-eq-LINES_MAX in
+    let r = room c.loop-left.invariant c.if-count-eq-LINES_MAX.false in
     rw (s.rest, (first_by c.first-end.ensures).some c.if-left-end.false, lines_next, (first_by c.first-end.ensures).front, ← c.read_line.ensures, ← s.many)
 
 pub loop-left-init : goal.loop-left-init
@@ -53,7 +54,7 @@ returns-then-left-end c =
     let h = c.if-left-end.true in
     let whole = (first_by c.first-end.ensures).whole h in
     let e : c.first-end.result ≡ length c.loop-left.left.now = c.first-end.ensures ∙ ap length whole in
-    rw (s.rest, (first_by c.first-end.ensures).none h, whole, lines_cut _ _ _ c.loop-left-test.true (room (goal.at.returns-then-left-end c).Else-count-eq-LINES_MAX), ← s.many, past_first, ← e) c.refused_at-then-left-end.ensures
+    rw (s.rest, (first_by c.first-end.ensures).none h, whole, lines_cut _ _ _ c.loop-left-test.true (room c.loop-left.invariant c.if-count-eq-LINES_MAX.false), ← s.many, past_first, ← e) c.refused_at-then-left-end.ensures
 
 pub slice_bounds-read_line-end : goal.slice_bounds-read_line-end
 slice_bounds-read_line-end c =
@@ -74,7 +75,7 @@ loop-left-preserved c =
       many = rw length-append (omega arith);
       within = search rules;
       short = search rules;
-      stored = rw (s.stored, s.many) (padded_more s.ls l (room (goal.at.loop-left-preserved c).Else-count-eq-LINES_MAX));
+      stored = rw (s.stored, s.many) (padded_more s.ls l (room c.loop-left.invariant c.if-count-eq-LINES_MAX.false));
       rest = rw (turn (goal.at.loop-left-preserved c).After-read_line, c.in-Read.is);
     }
 
