@@ -30,8 +30,7 @@ loop-on-preserved c =
     let inside : on.next < stop = (w.1.ready g).inside in
     let from : a.start ≤ on.next = w.1.from in
     let short : stop ≤ length a.listing.now = omega (arith, stop-is, few.1.1 (omega (arith, stop-is, inside, from))) in
-    let adv = subst (λ (k : Step). Advanced stop on (perform_of s k) c.advance-on.new.d c.advance-on.new.a c.advance-on.result) (get_or_default a.listing.now on.next _ nowhere (omega (arith, inside, short))) c.advance-on.ensures in
-    (
+    let adv = subst (λ (k : Step). Advanced stop on (perform_of s k) c.advance-on.new.d c.advance-on.new.a c.advance-on.result) (get_or_default a.listing.now on.next _ nowhere (omega (arith, inside, short))) c.advance-on.ensures in (
       turn_answer perform_of sober a.listing.now a.start stop c.loop-on.d c.loop-on.a c.advance-on.new.d c.advance-on.new.a on c.advance-on.result g w.1 short adv ∙ w.0,
       turn_runs (length a.listing.now) a.start stop on (omega (arith, stop-is, few.1.0, near)) g w.1 _ c.advance-on.new.d c.advance-on.new.a c.advance-on.result (perform_fits s (get_or a.listing.now on.next nowhere)) adv,
     )
