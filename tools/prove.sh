@@ -1,28 +1,16 @@
-# For ./run, which has set `here` and `name`: `prove` is `rt check $name`, one at a time in this working copy. While it proves it says on
-# standard error which crate it is at; on a terminal in one line, which goes at the end. What rt said is kept in target/run.said.
+# For ./run, which has set `here` and `name`: `prove` is `rt run` of the program `name`, one at a time in this working copy: rt proves and builds
+# it, and runs it once on nothing. While it proves this says on standard error which crate it is at; on a terminal in one line, which goes at the end. What
+# rt said is kept in target/run.said.
 # shellcheck shell=sh disable=SC2154
 said=$here/target/run.said
 
-# The crate `name` and those of the project that it is built on, lowest first, as crates.txt has them.
-needed() {
-    sed 's/#.*//' "$here/crates.txt" | awk -F: -v name="$name" '
-        NF { crate[++count] = $1; below[count] = $2 }
-        END {
-            needed[name]
-            for (i = count; i > 0; i--) if (crate[i] in needed) for (n = split(below[i], d, " "); n > 0; n--) needed[d[n]]
-            for (i = 1; i <= count; i++) if (crate[i] in needed) print crate[i]
-        }'
-}
-
-# The crate that is being proved and its place among those that are needed, if there is one: rt opens target/log/CRATE.say
-# where it begins to prove, and prints where a crate has ended. So that file is not older than all that was printed.
+# The crate that is being proved and its place among those that are needed, if there is one: rt says for each how many jobs it chose, where it begins.
 in_work() { # CRATES
-    at=0
+    current=$(sed -n 's/^rt: chose --jobs [0-9]* for \([a-z0-9_]*\)$/\1/p' "$said" | tail -n 1) at=0
     for crate; do
-        at=$((at + 1)) opened=$here/target/log/$crate.say
-        # shellcheck disable=SC3013 # dash and bash have -nt
-        if [ -f "$opened" ] && [ ! "$said" -nt "$opened" ]; then echo "$crate ($at of $#"; fi
-    done | tail -n 1
+        at=$((at + 1))
+        if [ "$crate" = "$current" ]; then echo "$crate ($at of $#"; fi
+    done
 }
 
 # The end of `tell`, with nothing left behind.
@@ -39,12 +27,13 @@ renews() { [ -t 1 ] && [ "${TERM:-dumb}" != dumb ]; }
 tell() {
     before='' nap=''
     trap hush TERM
+    needed=$("$here/tools/made" below "$name")
     while kill -0 "$prover" 2>/dev/null; do
         sleep 1 >/dev/null 2>&1 &
         nap=$!
         wait "$nap"
-        # shellcheck disable=SC2046 # a word for each crate
-        now=$(in_work $(needed))
+        # shellcheck disable=SC2086 # a word for each crate
+        now=$(in_work $needed "$name")
         [ -n "$now" ] || continue
         line="./run: proving $now, $(($(date +%s) - begun)) s so far)"
         if renews; then printf '\r%s\033[K' "$line"; elif [ "$now" != "$before" ]; then printf '%s\n' "$line"; fi
@@ -61,7 +50,10 @@ give_up() { # SIGNAL
     kill -s "$1" $$
 }
 
-# Its status is rt's.
+# What rt said, without what it says where all is well.
+told() { grep -vE '^(fn .*: proved|checked |so far: |statements |library |crate |axioms |logic |logic=proved|rt: chose )' "$said" | tail -n "${1:-60}"; }
+
+# Status 0 where the program is proved and built.
 prove() {
     # Two that prove at once would write into the same folder.
     exec 9>"$here/target/run.lock"
@@ -69,17 +61,26 @@ prove() {
         echo "./run: another ./run is proving; this one waits for it" >&2
         flock 9
     fi
-    begun=$(date +%s) prover='' teller='' status=0
+    ! "$here/tools/made" is "$name" || {
+        exec 9>&-
+        return 0
+    }
+    begun=$(date +%s) prover='' teller=''
+    sum=$("$here/tools/made" text "$name")
     # shellcheck disable=SC2064 # the name is put in now
     for signal in HUP INT TERM; do trap "give_up $signal" "$signal"; done
-    # In a session of its own, where that can be: then one signal ends rt and all below it.
-    (cd "$here" && exec $(command -v setsid) rt check "$name") >"$said" 2>&1 </dev/null &
+    # In a session of its own, where that can be: then one signal ends rt and all below it. Its status may be that of the program.
+    (cd "$here/crates/$name" && exec $(command -v setsid) rt run) >/dev/null 2>"$said" </dev/null &
     prover=$!
     tell >&2 9>&- </dev/null &
     teller=$!
-    wait "$prover" || status=$?
+    wait "$prover" || :
     trap - HUP INT TERM
     { kill "$teller" && wait "$teller"; } 2>/dev/null || :
+    status=0
+    grep -q "^rt: running out/$name;" "$said" || status=1
+    # Where the text was changed meanwhile, the next ./run asks rt again.
+    [ "$status" -ne 0 ] || "$here/tools/made" note "$sum" "$name" 2>/dev/null || :
     exec 9>&-
     return "$status"
 }

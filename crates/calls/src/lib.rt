@@ -111,9 +111,8 @@ fn answer(op: u8, size: Size, src: u32, dst: u32, ccr: u8) -> u64
     }
 }
 
-// Any operation by its number: the table `operations` of specs/Packed.
-#[unsafe(no_mangle)]
-pub extern "C" fn alu_call(op: u8, size: u8, src: u32, dst: u32, ccr: u8) -> u64
+// Any operation by its number: the table `operations` of specs/Packed. The crate calls_c exports it.
+pub fn alu_call(op: u8, size: u8, src: u32, dst: u32, ccr: u8) -> u64
     ensures { result ≡ call_of op size src dst ccr }
 {
     let Found::Is(sized) = size_of(size) else {

@@ -8,7 +8,7 @@
 --     rack_spare     spare slots stay
 --     rack_parts     a rack that is halted and continued is, box by box, the run in parts
 -- Before them the laws of the loop over the boxes. Assumes nothing.
-use Rattle.std.proofs.Common.{◌≡◌, ℕ, zero, suc, ◌+◌, ◌<◌, ◌≤◌, Bool, true, false, cond, ◌&&◌, leb, List, [], ◌∷◌, map, length, get_or, take, set, sym, refl, ap, ◌∙◌, subst, ap₂, arith, length-take-le, take_all, get_or-take, le-leb, leb-true}
+use Rattle.std.proofs.Common.{◌≡◌, ℕ, zero, suc, ◌+◌, ◌<◌, ◌≤◌, Bool, true, false, cond, ◌&&◌, leb, List, [], ◌∷◌, map, length, get_or, take, set, refl, ap, ◌∙◌, ap₂, arith, length-take-le, take_all, get_or-take, le-leb, leb-true}
 use mathlib.Core.Path.{subst⁻¹}
 use lib.ListN.{length-map, get_or-map}
 use borrow.Author.Tests.{lt-leb}
@@ -17,7 +17,6 @@ use Rattle.step.specs.declared.forms.Step.{Step}
 use Rattle.step.specs.declared.steps.Performed.{Performed}
 use Rattle.step.specs.declared.runs.Ran.{Ran}
 use Rattle.step.specs.declared.racks.Boxed.{Boxed}
-use Rattle.step.specs.declared.racks.Racked.{Racked}
 use Rattle.step.specs.declared.racks.Fit.TheVariants.{Fits, TooMany}
 use Rattle.step.specs.Run.{after, run_of}
 use Rattle.step.specs.Lent.{over}

@@ -13,6 +13,3 @@ mod Running
 mod Stepping
 pub mod Numbers
 pub mod Determined
-pub mod Walks
-pub mod Lending
-pub mod OneCall

@@ -1,10 +1,11 @@
 -- Laws of texts: when two are the same, and how a byte parts one. Assumes nothing.
---     same_true, same_refl, same_by    two are the same exactly where they are equal
+--     same_true, same_refl, same_pointwise    two are the same exactly where they are equal; std's `==` on slices says the same
 --     First                            an index tells how a byte parts a text: the part before it, and the rest as `&s[i + 1..]` gives it
 --     first_tells, first_by            the length of the part before does
-use Rattle.std.proofs.Common.{◌≡◌, ℕ, suc, ◌+◌, ◌-◌, ◌<◌, ◌≤◌, Bool, true, false, cond, ◌&&◌, eqb, List, [], ◌∷◌, length, take, drop, sym, refl, ap, ◌∙◌, ap₂, le_refl, le_of_suc-le-suc, not-suc-le-zero, add-one, arith, length-drop, length-take-le, take_all, eq-eqb, eqb-true}
+use Rattle.std.proofs.Common.{◌≡◌, ℕ, suc, ◌+◌, ◌-◌, ◌<◌, ◌≤◌, Bool, true, false, cond, ◌&&◌, eqb, List, [], ◌∷◌, length, take, drop, sym, refl, ap, ◌∙◌, ap₂, le_refl, le_of_suc-le-suc, not-suc-le-zero, add-one, arith, length-drop, length-take-le, take_all, eq-eqb, eqb-true, ne_eqb, get_or, nat_eq}
 use mathlib.Core.Bool.{false≢true}
-use Rattle.bytes.specs.Bytes.{index_of, index_after}
+use Rattle.std.proofs.Math.Seq.{drop-cons}
+use lib.Pointwise.{pointwise}
 use Rattle.text.specs.Text.{same_bytes, before, after, parts}
 
 -- ---- two texts are the same
@@ -28,14 +29,13 @@ unfolding same_bytes
 same_refl [] = refl
 same_refl (x ∷ xs) = rw (eq-eqb x x refl) (same_refl xs)
 
--- an answer that is true exactly where the two are equal
-pub same_by : (r : Bool) (xs ys : List ℕ) → (r ≡ true → xs ≡ ys) → (xs ≡ ys → r ≡ true) → r ≡ same_bytes xs ys
-same_by true xs ys f g = rw (← f refl) (sym (same_refl xs))
-same_by false xs ys f g = go (same_bytes xs ys) (same_true xs ys)
-  where
-    go : (t : Bool) → (t ≡ true → xs ≡ ys) → false ≡ t
-    go true k = g (k refl)
-    go false k = refl
+-- `==` of std compares them so
+pub same_pointwise : (xs ys : List ℕ) → pointwise nat_eq xs ys ≡ same_bytes xs ys
+unfolding same_bytes
+same_pointwise [] [] = refl
+same_pointwise [] (y ∷ ys) = refl
+same_pointwise (x ∷ xs) [] = refl
+same_pointwise (x ∷ xs) (y ∷ ys) = ap (λ (t : Bool). eqb x y && t) (same_pointwise xs ys)
 
 -- ---- the search for a byte
 
@@ -55,40 +55,36 @@ pub record First (b : ℕ) (xs : List ℕ) (i : ℕ) : Type 0 where
 pub from_is : (xs : List ℕ) (a : ℕ) → from a xs ≡ drop a xs
 from_is xs a = take_all (length xs - a) (drop a xs) (simp length-drop (le_refl _))
 
--- ---- the parts of a text, at the index that `bytes` finds
-pub index_before : (b : ℕ) (xs : List ℕ) → index_of b xs ≡ length (before b xs)
-unfolding before index_of index_after
-index_before b [] = refl
-index_before b (x ∷ xs) = go (eqb x b) (index_before b xs)
-  where
-    go : (t : Bool) → index_of b xs ≡ length (before b xs) → index_after t (index_of b xs) ≡ length (cond t [] (x ∷ before b xs))
-    go true e = refl
-    go false e = ap suc e
+-- ---- the parts of a text, at that index
+
+-- where b stands first, or the length
+abbrev index_of : (b : ℕ) → List ℕ → ℕ
+index_of b xs = length (before b xs)
 
 front_at : (b : ℕ) (xs : List ℕ) → before b xs ≡ take (index_of b xs) xs
-unfolding before index_of index_after
+unfolding before
 front_at b [] = refl
 front_at b (x ∷ xs) = go (eqb x b) (front_at b xs)
   where
-    go : (t : Bool) → before b xs ≡ take (index_of b xs) xs → cond t [] (x ∷ before b xs) ≡ take (index_after t (index_of b xs)) (x ∷ xs)
+    go : (t : Bool) → before b xs ≡ take (index_of b xs) xs → cond t [] (x ∷ before b xs) ≡ take (length (cond t [] (x ∷ before b xs))) (x ∷ xs)
     go true e = refl
     go false e = ap (λ (l : List ℕ). x ∷ l) e
 
 some_at : (b : ℕ) (xs : List ℕ) → index_of b xs < length xs → after b xs ≡ parts b (drop (suc (index_of b xs)) xs)
-unfolding before after index_of index_after
+unfolding before after
 some_at b [] h = absurd (not-suc-le-zero h)
 some_at b (x ∷ xs) h = go (eqb x b) h (some_at b xs)
   where
-    go : (t : Bool) → index_after t (index_of b xs) < suc (length xs) → (index_of b xs < length xs → after b xs ≡ parts b (drop (suc (index_of b xs)) xs)) → cond t (parts b xs) (after b xs) ≡ parts b (drop (suc (index_after t (index_of b xs))) (x ∷ xs))
+    go : (t : Bool) → length (cond t [] (x ∷ before b xs)) < suc (length xs) → (index_of b xs < length xs → after b xs ≡ parts b (drop (suc (index_of b xs)) xs)) → cond t (parts b xs) (after b xs) ≡ parts b (drop (suc (length (cond t [] (x ∷ before b xs)))) (x ∷ xs))
     go true h more = refl
     go false h more = more (le_of_suc-le-suc h)
 
 none_at : (b : ℕ) (xs : List ℕ) → length xs ≤ index_of b xs → after b xs ≡ []
-unfolding before after index_of index_after
+unfolding before after
 none_at b [] h = refl
 none_at b (x ∷ xs) h = go (eqb x b) h (none_at b xs)
   where
-    go : (t : Bool) → suc (length xs) ≤ index_after t (index_of b xs) → (length xs ≤ index_of b xs → after b xs ≡ []) → cond t (parts b xs) (after b xs) ≡ []
+    go : (t : Bool) → suc (length xs) ≤ length (cond t [] (x ∷ before b xs)) → (length xs ≤ index_of b xs → after b xs ≡ []) → cond t (parts b xs) (after b xs) ≡ []
     go true h more = absurd (not-suc-le-zero h)
     go false h more = more (le_of_suc-le-suc h)
 
@@ -104,16 +100,28 @@ first_at_lem b xs h =
     }
 
 within_at : (b : ℕ) (xs : List ℕ) → index_of b xs ≤ length xs
-unfolding index_of index_after
+unfolding before
 within_at b [] = le_refl 0
 within_at b (x ∷ xs) = go (eqb x b) (within_at b xs)
   where
-    go : (t : Bool) → index_of b xs ≤ length xs → index_after t (index_of b xs) ≤ suc (length xs)
+    go : (t : Bool) → index_of b xs ≤ length xs → length (cond t [] (x ∷ before b xs)) ≤ suc (length xs)
     go true h = omega arith
     go false h = omega arith
 
 pub first_tells : (b : ℕ) (xs : List ℕ) → First b xs (length (before b xs))
-first_tells b xs = rw (← index_before b xs) (first_at_lem b xs (within_at b xs))
+first_tells b xs = first_at_lem b xs (within_at b xs)
 
 pub first_by : {b i : ℕ} {xs : List ℕ} → i ≡ length (before b xs) → First b xs i
 first_by {b} {i} {xs} e = rw e (first_tells b xs)
+
+-- ---- a search from the front: how far a text is read before its index
+
+-- at place i, where b was not met so far, b itself ends it
+pub index_here : (b i : ℕ) (xs : List ℕ) → i < length xs → get_or xs i 0 ≡ b → length (before b (drop i xs)) ≡ 0
+unfolding before
+index_here b i xs h e = rw (drop-cons xs i 0, eq-eqb _ _ e)
+
+-- and another byte is one more
+pub index_next : (b i : ℕ) (xs : List ℕ) → i < length xs → (get_or xs i 0 ≡ b → ⊥) → length (before b (drop i xs)) ≡ 1 + length (before b (drop (i + 1) xs))
+unfolding before
+index_next b i xs h n = rw (drop-cons xs i 0, ne_eqb _ _ n, add-one) (omega arith)

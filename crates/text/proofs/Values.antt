@@ -11,9 +11,7 @@ use native.Mathlib.Decide.{dec_le}
 use lib.Seq.{set_split, append_snoc}
 use Rattle.io.specs.Digits.{last_digits as digits, IsDigitCount}
 use Rattle.text.specs.declared.types.Decimal.{Decimal}
-use Rattle.text.specs.declared.types.Decimal.TheVariants as Decimal
 use Rattle.text.specs.declared.types.Hex.{Hex}
-use Rattle.text.specs.declared.types.Hex.TheVariants as Hex
 use Rattle.text.specs.Text.{same_bytes, hex_digit, worth_of, value_from, value_of, decimal_in, decimal_of, decimal_read, hex_byte, hex_in, hex_of, hex_read}
 use Rattle.text.proofs.Texts.{same_true, same_refl}
 

@@ -4,11 +4,8 @@ use Rattle.std.specs.Prelude.{ℕ, zero, suc, ◌+◌, ◌-◌, ◌*◌, ◌/◌
 use Prim.Native.Char.{code}
 use Prim.Native.String.{String, [] as none, ◌∷◌ as ◌then◌}
 use Rattle.text.specs.declared.types.Digit.{Digit}
-use Rattle.text.specs.declared.types.Digit.TheVariants as Digit
 use Rattle.text.specs.declared.types.Decimal.{Decimal}
-use Rattle.text.specs.declared.types.Decimal.TheVariants as Decimal
 use Rattle.text.specs.declared.types.Hex.{Hex}
-use Rattle.text.specs.declared.types.Hex.TheVariants as Hex
 
 -- the bytes of an ASCII text
 abbrev pub ascii : String → List ℕ

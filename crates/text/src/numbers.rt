@@ -25,6 +25,7 @@ pub fn digit(b: u8) -> Digit
 }
 
 // A byte as a hexadecimal digit, 0 to 9 or A to F.
+#[tactic(auto, unfolding(crate::specs::Text::hex_digit))]
 pub fn hex_digit(b: u8) -> Digit
     ensures { result ≡ hex_digit b }
 {
@@ -38,6 +39,7 @@ pub fn hex_digit(b: u8) -> Digit
 }
 
 // A field that is one decimal digit.
+#[tactic(auto, unfolding(crate::specs::Text::digit_of))]
 pub fn digit_of(field: &[u8]) -> Digit
     ensures { result ≡ digit_of field.now }
 {

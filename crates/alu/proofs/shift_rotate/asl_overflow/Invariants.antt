@@ -1,6 +1,5 @@
 use mathlib.Core.Path.{◌≡◌}
 use mathlib.Core.Bool.{◌||◌}
-use Prim.Native.Nat.{◌-◌}
 use Rattle.alu.specs.Bits.{bits_of, low, top}
 use Rattle.alu.specs.Shifts.{changed}
 use Rattle.alu.proofs.shift_rotate.asl_overflow.Given as goal

@@ -1,0 +1,2 @@
+-- The law of the contract.
+pub mod Determined
