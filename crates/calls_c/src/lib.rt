@@ -1,5 +1,5 @@
 // `alu_call` of calls for C and Rust to link; bindings/c/gromavelush.h declares it. It hands its arguments on, and promises word for word what that
-// of calls promises.
+// of calls promises. It stands in a crate of its own because a static library can't be used by another crate.
 #![tactic(auto)]
 
 ghost use Rattle.std.specs.Prelude.{◌≡◌};

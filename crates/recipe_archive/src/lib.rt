@@ -1,6 +1,6 @@
-// The functions of recipe_calls for C and Rust to link, beside `alu_call` of calls; bindings/c/gromavelush.h declares them. Each hands its
-// arguments on, and promises word for word what that of recipe_calls promises. They are a crate of their own because whoever makes an archive proves
-// its crate again: so that is this page, and not recipe_calls.
+// The functions of recipe_calls for C and Rust to link, beside `alu_call` of calls_c; bindings/c/gromavelush.h declares them. Each hands its
+// arguments on, and promises word for word what that of recipe_calls promises. They are a crate of their own because a static library can't be
+// used by another crate.
 #![tactic(auto)]
 
 ghost use Rattle.std.specs.Prelude.{◌≡◌};
