@@ -55,16 +55,19 @@ fn write(file: &str, text: String) {
     }
 }
 
-/// RATTLE_LIB: the folder of those of the port's libraries that are wanted.
+/// RATTLE_LIB: the folder of those of the port's libraries that are wanted; those that tools/archive made of single functions
+/// stand in its folder `functions`.
 fn link_port(name: &str) {
     println!("cargo::rerun-if-env-changed=RATTLE_LIB");
-    let folder = variable("RATTLE_LIB");
-    let library = Path::new(&folder).join(format!("lib{name}.a"));
-    if !library.is_file() {
-        stop(&[format!("the port's library is not there: {} (RATTLE_LIB)", library.display())]);
-    }
-    println!("cargo::rerun-if-changed={}", library.display());
-    println!("cargo::rustc-link-search=native={folder}");
+    let file = format!("lib{name}.a");
+    let main = Path::new(&variable("RATTLE_LIB")).to_path_buf();
+    let folder =
+        [main.join("functions"), main.clone()].into_iter().find(|folder| folder.join(&file).is_file());
+    let Some(folder) = folder else {
+        stop(&[format!("the port's library is not there: {} (RATTLE_LIB)", main.join(&file).display())]);
+    };
+    println!("cargo::rerun-if-changed={}", folder.join(&file).display());
+    println!("cargo::rustc-link-search=native={}", folder.display());
     println!("cargo::rustc-link-lib=static={name}");
 }
 
@@ -75,7 +78,7 @@ fn main() {
     write("core.rs", modules(&folder, &CORE));
     write("instructions.rs", modules(&folder.join("instructions"), &INSTRUCTIONS));
     for (feature, name) in [
-        ("CARGO_FEATURE_PORT", "calls"),
+        ("CARGO_FEATURE_PORT", "calls_c"),
         ("CARGO_FEATURE_C_FUNCTIONS", "recipe_archive"),
         ("CARGO_FEATURE_STEP", "step"),
         ("CARGO_FEATURE_RECIPES", "recipes"),

@@ -1,46 +1,62 @@
 //! The port's C functions for recipes and listings, made safe; `port` has the one for operations. They are the functions of
-//! crates/recipe_archive that bindings/c/gromavelush.h declares, and take and tell the same numbers. Compiled without their
-//! proofs they have one thing of the kit's own: a slice goes by a pointer to its pointer and length, and not as the two.
+//! crates/recipe_archive that bindings/c/gromavelush.h declares, and take and tell the same numbers.
 //!
 //! A row that is only written is full of ones before, so that a place that the port leaves out shows.
 
-use crate::steps::{Flags, Slice, State, TOLD, Told};
+use crate::steps::{Flags, State, TOLD, Told};
 
-unsafe extern "C" {
-    fn recipe_archive_recipe_answer(text: &Slice<u8>, out: &Slice<u8>) -> usize;
-    fn recipe_archive_recipe_translate(text: &Slice<u8>, listing: &Slice<u64>, told: &mut Told);
-    fn recipe_archive_listing_run(
-        listing: &Slice<u64>,
-        d: &mut [u32; 8],
-        a: &mut [u32; 8],
-        flags: &mut u8,
-        start: usize,
-        budget: u32,
-        told: &mut Told,
-    );
-    fn recipe_archive_rack_run(
-        listing: &Slice<u64>,
-        d: &Slice<u32>,
-        a: &Slice<u32>,
-        flags: &Slice<u8>,
-        starts: &Slice<usize>,
-        budget: u32,
-        answers: &Slice<u64>,
-        told: &mut Told,
-    );
+mod c {
+    use super::Told;
+
+    unsafe extern "C" {
+        pub fn recipe_answer(text: *const u8, length: usize, out: *mut u8, room: usize) -> usize;
+        pub fn recipe_translate(
+            text: *const u8,
+            text_length: usize,
+            listing: *mut u64,
+            length: usize,
+            told: &mut Told,
+        );
+        pub fn listing_run(
+            listing: *const u64,
+            length: usize,
+            d: &mut [u32; 8],
+            a: &mut [u32; 8],
+            flags: &mut u8,
+            start: usize,
+            budget: u32,
+            told: &mut Told,
+        );
+        pub fn rack_run(
+            listing: *const u64,
+            length: usize,
+            d: *mut u32,
+            d_length: usize,
+            a: *mut u32,
+            a_length: usize,
+            flags: *mut u8,
+            boxes: usize,
+            starts: *const usize,
+            starts_length: usize,
+            budget: u32,
+            answers: *mut u64,
+            answers_length: usize,
+            told: &mut Told,
+        );
+    }
 }
 
 /// How many bytes of `out` are the printed text.
 pub fn recipe_answer(text: &[u8], out: &mut [u8]) -> usize {
     // SAFETY: the rows are live and as long as the function takes them; those that it writes overlap nothing, and it keeps none.
-    unsafe { recipe_archive_recipe_answer(&Slice::lent(text), &Slice::lent_to_write(out)) }
+    unsafe { c::recipe_answer(text.as_ptr(), text.len(), out.as_mut_ptr(), out.len()) }
 }
 
 /// The refusal's number, its line, the number of steps and the refusal's column; then zeros.
 pub fn recipe_translate(text: &[u8], listing: &mut [u64]) -> Told {
     let mut told = [u64::MAX; TOLD];
     // SAFETY: as above.
-    unsafe { recipe_archive_recipe_translate(&Slice::lent(text), &Slice::lent_to_write(listing), &mut told) };
+    unsafe { c::recipe_translate(text.as_ptr(), text.len(), listing.as_mut_ptr(), listing.len(), &mut told) };
     told
 }
 
@@ -63,7 +79,7 @@ pub fn box_run(
 ) -> Told {
     let mut told = [u64::MAX; TOLD];
     // SAFETY: as above.
-    unsafe { recipe_archive_listing_run(&Slice::lent(listing), d, a, flags, start, budget, &mut told) };
+    unsafe { c::listing_run(listing.as_ptr(), listing.len(), d, a, flags, start, budget, &mut told) };
     told
 }
 
@@ -77,10 +93,24 @@ pub fn rack_run(
     answers: &mut [u64],
 ) -> Told {
     let mut told = [u64::MAX; TOLD];
-    let [d, a] = [d, a].map(Slice::lent_to_write);
-    let (listing, starts) = (Slice::lent(listing), Slice::lent(starts));
-    let (flags, answers) = (Slice::lent_to_write(flags), Slice::lent_to_write(answers));
     // SAFETY: as above.
-    unsafe { recipe_archive_rack_run(&listing, &d, &a, &flags, &starts, budget, &answers, &mut told) };
+    unsafe {
+        c::rack_run(
+            listing.as_ptr(),
+            listing.len(),
+            d.as_mut_ptr(),
+            d.len(),
+            a.as_mut_ptr(),
+            a.len(),
+            flags.as_mut_ptr(),
+            flags.len(),
+            starts.as_ptr(),
+            starts.len(),
+            budget,
+            answers.as_mut_ptr(),
+            answers.len(),
+            &mut told,
+        )
+    };
     told
 }

@@ -1,9 +1,9 @@
 //! What of the port's runs and single steps has no C function, and `run_array` to measure. It is called as the kit compiles
-//! it: a struct goes by a pointer to it, the answer's first, and a slice by a pointer to its pointer and length. The
-//! layouts are those of `steps`; a digest of all answers tells if one is not.
+//! it: a struct goes by a pointer to it, the answer's first, but an answer of two plain values as C has it; a slice by its
+//! pointer and its length. The layouts are those of `steps`; a digest of all answers tells if one is not.
 
 use crate::recipes::SLOTS;
-use crate::steps::{Class, End, Fault, Flags, Ran, Slice, State, Step};
+use crate::steps::{Class, End, Fault, Flags, Ran, State, Step};
 use std::mem::MaybeUninit;
 
 /// step::runs::Ran
@@ -77,14 +77,16 @@ unsafe extern "C" {
     );
     pub fn step_lent_run(
         answer: *mut Answer,
-        listing: *const Slice<Step>,
+        listing: *const Step,
+        length: usize,
         state: *const State,
         start: usize,
         budget: u32,
     );
     pub fn step_lent_run_in(
         answer: *mut Left,
-        listing: *const Slice<Step>,
+        listing: *const Step,
+        length: usize,
         d: *mut [u32; 8],
         a: *mut [u32; 8],
         flags: *const Flags,
@@ -92,16 +94,19 @@ unsafe extern "C" {
         budget: u32,
     );
     fn step_racks_rack(
-        answer: *mut Racked,
-        listing: *const Slice<Step>,
-        sets: *const Slice<State>,
-        starts: *const Slice<usize>,
+        listing: *const Step,
+        length: usize,
+        sets: *mut State,
+        boxes: usize,
+        starts: *const usize,
+        starts_length: usize,
         budget: u32,
-        answers: *const Slice<Ran>,
-    );
+        answers: *mut Ran,
+        answers_length: usize,
+    ) -> Racked;
     fn step_lent_perform_in(answer: *mut Told, state: *mut State, step: *const Step);
-    fn step_lent_fetch(answer: *mut Step, listing: *const Slice<Step>, at: usize, other: *const Step);
-    fn step_lent_store(listing: *const Slice<Step>, at: usize, step: *const Step);
+    fn step_lent_fetch(answer: *mut Step, listing: *const Step, length: usize, at: usize, other: *const Step);
+    fn step_lent_store(listing: *mut Step, length: usize, at: usize, step: *const Step);
 }
 
 fn answered(state: &mut State, ask: impl FnOnce(*mut Answer, *const State)) -> Ran {
@@ -121,18 +126,18 @@ pub fn run_array(listing: &[Step; SLOTS], count: usize, state: &mut State, start
 }
 
 pub fn run(listing: &[Step], state: &mut State, start: usize, budget: u32) -> Ran {
-    let slice = Slice::lent(listing);
     // SAFETY: as above.
-    answered(state, |answer, state| unsafe { step_lent_run(answer, &slice, state, start, budget) })
+    answered(state, |answer, state| unsafe {
+        step_lent_run(answer, listing.as_ptr(), listing.len(), state, start, budget)
+    })
 }
 
 pub fn run_in(listing: &[Step], state: &mut State, start: usize, budget: u32) -> Ran {
-    let slice = Slice::lent(listing);
     let State { d, a, flags } = state;
     let mut left = MaybeUninit::uninit();
     // SAFETY: as above; the registers that are written overlap nothing.
     let left: Left = unsafe {
-        step_lent_run_in(left.as_mut_ptr(), &slice, d, a, flags, start, budget);
+        step_lent_run_in(left.as_mut_ptr(), listing.as_ptr(), listing.len(), d, a, flags, start, budget);
         left.assume_init()
     };
     *flags = left.flags;
@@ -147,13 +152,19 @@ pub fn rack(
     budget: u32,
     answers: &mut [Ran],
 ) -> (u64, usize) {
-    let (listing, starts) = (Slice::lent(listing), Slice::lent(starts));
-    let (sets, answers) = (Slice::lent_to_write(sets), Slice::lent_to_write(answers));
-    let mut racked = MaybeUninit::uninit();
     // SAFETY: as above; the rows that are written overlap nothing.
-    let racked: Racked = unsafe {
-        step_racks_rack(racked.as_mut_ptr(), &listing, &sets, &starts, budget, &answers);
-        racked.assume_init()
+    let racked = unsafe {
+        step_racks_rack(
+            listing.as_ptr(),
+            listing.len(),
+            sets.as_mut_ptr(),
+            sets.len(),
+            starts.as_ptr(),
+            starts.len(),
+            budget,
+            answers.as_mut_ptr(),
+            answers.len(),
+        )
     };
     let number = match racked.fit {
         Fit::Fits => 0,
@@ -166,16 +177,14 @@ pub fn rack(
 pub fn stored(listing: &[Step]) -> Vec<Step> {
     let mut copy = vec![listing[0]; listing.len()];
     for (at, step) in listing.iter().enumerate() {
-        let slice = Slice::lent_to_write(&mut copy);
-        // SAFETY: as above; the slice is of `copy`, which nothing else holds.
-        unsafe { step_lent_store(&slice, at, step) };
+        // SAFETY: as above; nothing else holds `copy`.
+        unsafe { step_lent_store(copy.as_mut_ptr(), copy.len(), at, step) };
     }
     copy
 }
 
 /// A run by single steps on a lent register set, with document 01's tests around them.
 pub fn by_steps(listing: &[Step], state: &mut State, start: usize, budget: u32) -> Ran {
-    let slice = Slice::lent(listing);
     let mut ran = Ran { end: End::Budget, next: start, steps: 0, clocks: 0 };
     if start > listing.len() {
         ran.end = End::Refused(Fault::StartPastEnd, start, 0);
@@ -193,7 +202,7 @@ pub fn by_steps(listing: &[Step], state: &mut State, start: usize, budget: u32) 
         let (mut step, mut told) = (MaybeUninit::uninit(), MaybeUninit::uninit());
         // SAFETY: as above.
         let (Step { line, .. }, told): (Step, Told) = unsafe {
-            step_lent_fetch(step.as_mut_ptr(), &slice, at, &listing[0]);
+            step_lent_fetch(step.as_mut_ptr(), listing.as_ptr(), listing.len(), at, &listing[0]);
             step_lent_perform_in(told.as_mut_ptr(), state, step.as_ptr());
             (step.assume_init(), told.assume_init())
         };

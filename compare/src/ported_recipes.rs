@@ -2,7 +2,7 @@
 //! The layouts are those of `steps` and `recipes`.
 
 use crate::recipes::{Recipe, Refused, SLOTS, Told};
-use crate::steps::{Slice, Step};
+use crate::steps::Step;
 use std::hint::black_box;
 use std::mem::MaybeUninit;
 
@@ -42,9 +42,14 @@ struct Listing {
 }
 
 unsafe extern "C" {
-    fn recipes_reader_read(answer: *mut Reading, text: *const Slice<u8>);
+    fn recipes_reader_read(answer: *mut Reading, text: *const u8, length: usize);
     fn recipes_translator_translate_array(answer: *mut Listing, recipe: *const Recipe);
-    fn recipes_lent_translate(answer: *mut Translated, recipe: *const Recipe, listing: *const Slice<Step>);
+    fn recipes_lent_translate(
+        answer: *mut Translated,
+        recipe: *const Recipe,
+        listing: *mut Step,
+        length: usize,
+    );
 }
 
 impl RefusedAt {
@@ -69,7 +74,8 @@ fn answered<T>(ask: impl FnOnce(*mut T)) -> T {
 /// The refusal, or its number 0, and the recipe.
 pub fn read(text: &[u8]) -> (Refused, Recipe) {
     // SAFETY: the pointers are to live values, and the port keeps none of them.
-    let reading: Reading = answered(|answer| unsafe { recipes_reader_read(answer, &Slice::lent(text)) });
+    let reading: Reading =
+        answered(|answer| unsafe { recipes_reader_read(answer, text.as_ptr(), text.len()) });
     (reading.refused.refused(), reading.recipe)
 }
 
@@ -92,7 +98,7 @@ pub fn translate_array(recipe: &Recipe) -> (Told, [Step; SLOTS]) {
 
 /// What is told.
 pub fn translate(recipe: &Recipe, listing: &mut [Step]) -> Told {
-    let slice = Slice::lent_to_write(listing);
     // SAFETY: as above.
-    answered(|answer| unsafe { recipes_lent_translate(answer, recipe, &slice) }).told()
+    answered(|answer| unsafe { recipes_lent_translate(answer, recipe, listing.as_mut_ptr(), listing.len()) })
+        .told()
 }

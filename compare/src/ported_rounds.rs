@@ -3,22 +3,20 @@
 use crate::ported::{self, Answer, Left};
 use crate::recipes::SLOTS;
 use crate::rounds::{NO_RAN, digest, opaque};
-use crate::steps::{FIRST, Ran, Slice, State, Step};
+use crate::steps::{FIRST, Ran, State, Step};
 
 /// # Safety
 /// There are `length` steps at `listing`. So it is with all rounds.
 #[unsafe(no_mangle)]
 pub unsafe extern "C" fn in_rounds(listing: *const Step, length: usize, pairs: usize) -> u64 {
-    // SAFETY: as above.
-    let listing = Slice::lent(unsafe { std::slice::from_raw_parts(listing, length) });
     let State { mut d, mut a, flags } = FIRST;
     let mut one = Left { ran: NO_RAN, flags };
     let (mut other, (start, budget)) = (one, opaque());
     for _ in 0..pairs {
         // SAFETY: the pointers are to live values that don't overlap, and the port keeps none of them.
         unsafe {
-            ported::step_lent_run_in(&mut one, &listing, &mut d, &mut a, &other.flags, start, budget);
-            ported::step_lent_run_in(&mut other, &listing, &mut d, &mut a, &one.flags, start, budget);
+            ported::step_lent_run_in(&mut one, listing, length, &mut d, &mut a, &other.flags, start, budget);
+            ported::step_lent_run_in(&mut other, listing, length, &mut d, &mut a, &one.flags, start, budget);
         }
     }
     digest(other.ran.told(), &State { d, a, flags: other.flags })
@@ -40,11 +38,11 @@ fn handed_on(pairs: usize, run: impl Fn(&mut Answer, &State)) -> u64 {
 /// As above.
 #[unsafe(no_mangle)]
 pub unsafe extern "C" fn slice_rounds(listing: *const Step, length: usize, pairs: usize) -> u64 {
-    // SAFETY: as above.
-    let listing = Slice::lent(unsafe { std::slice::from_raw_parts(listing, length) });
     let (start, budget) = opaque();
     // SAFETY: as above.
-    handed_on(pairs, |answer, state| unsafe { ported::step_lent_run(answer, &listing, state, start, budget) })
+    handed_on(pairs, |answer, state| unsafe {
+        ported::step_lent_run(answer, listing, length, state, start, budget)
+    })
 }
 
 /// # Safety

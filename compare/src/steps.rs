@@ -238,23 +238,6 @@ impl Ran {
     }
 }
 
-/// &[T] or &mut [T]
-#[repr(C)]
-pub struct Slice<T> {
-    at: *const T,
-    length: usize,
-}
-
-impl<T> Slice<T> {
-    pub fn lent(slice: &[T]) -> Slice<T> {
-        Slice { at: slice.as_ptr(), length: slice.len() }
-    }
-
-    pub fn lent_to_write(slice: &mut [T]) -> Slice<T> {
-        Slice { at: slice.as_mut_ptr(), length: slice.len() }
-    }
-}
-
 pub const FIRST: State = State {
     d: [1, 2, 3, 4, 5, 6, 7, 8],
     a: [9, 10, 11, 12, 13, 14, 15, 16],

@@ -5,7 +5,11 @@
 
 mod line;
 
-use libc::STDOUT_FILENO;
+use input::{read_text, tell_failure};
+use std::fs::File;
+use std::io;
+use std::io::Read;
+use std::rt::Files;
 
 #[derive(Clone, Copy)]
 struct Tally {
@@ -13,37 +17,31 @@ struct Tally {
     failed: u64,
 }
 
-fn report(path: &[u8], number: u64, text: &[u8], got: u64) {
-    io::write_all(STDOUT_FILENO, b"failed: ");
-    io::write_all(STDOUT_FILENO, path);
-    io::write_all(STDOUT_FILENO, b" line ");
-    io::print_decimal(STDOUT_FILENO, number);
-    io::write_all(STDOUT_FILENO, b", got ");
-    io::print_hex(STDOUT_FILENO, got, 16);
-    io::write_all(STDOUT_FILENO, b" for ");
-    io::write_all(STDOUT_FILENO, text);
+fn report<R: Print>(rt: &R, path: &str, number: u64, text: &[u8], got: u64) -> io::Result<()> {
+    print!(rt; "failed: {path} line {number}, got {got:016x} for ")?;
+    rt.write_all(text)
 }
 
 // One more line in the tally.
-fn counted(t: Tally, path: &[u8], text: &[u8; 43]) -> Tally {
-    let cases = std::num::wrapping_add_u64(t.cases, 1);
+fn counted<R: Print>(rt: &R, t: Tally, path: &str, text: &[u8; 43]) -> io::Result<Tally> {
+    let cases = t.cases.wrapping_add(1);
     let case = line::read(text);
     let got = line::answer(case);
     if line::agrees(case, got) {
-        return Tally {
-            cases: cases,
+        return Ok(Tally {
+            cases,
             failed: t.failed,
-        };
+        });
     }
-    report(path, cases, text, got);
-    Tally {
-        cases: cases,
-        failed: std::num::wrapping_add_u64(t.failed, 1),
-    }
+    report(rt, path, cases, text, got)?;
+    Ok(Tally {
+        cases,
+        failed: t.failed.wrapping_add(1),
+    })
 }
 
 // The tally of all lines. A proved loop has to end: it counts down from more lines than a file has.
-fn all_lines(path: &[u8], fd: i32) -> Tally {
+fn all_lines<R: Print, F: Read>(rt: &R, path: &str, file: &mut F) -> io::Result<Tally> {
     let mut t = Tally {
         cases: 0,
         failed: 0,
@@ -51,65 +49,65 @@ fn all_lines(path: &[u8], fd: i32) -> Tally {
     let mut turns: u32 = 1_000_000;
     while turns > 0 {
         let mut text = [0u8; 43];
-        let n = io::read_full(fd, &mut text);
+        let n = read_text(file, &mut text).n;
         if n < 43 {
             break;
         }
-        t = counted(t, path, &text);
+        t = counted(rt, t, path, &text)?;
         turns -= 1;
     }
-    t
+    Ok(t)
 }
 
-fn print_counts(path: &[u8], t: Tally) {
-    io::write_all(STDOUT_FILENO, path);
-    io::write_all(STDOUT_FILENO, b": ");
-    io::print_decimal(STDOUT_FILENO, t.cases);
-    io::write_all(STDOUT_FILENO, b" cases, ");
-    io::print_decimal(STDOUT_FILENO, t.failed);
-    io::write_all(STDOUT_FILENO, b" failed\n");
+fn print_counts<R: Print>(rt: &R, path: &str, t: Tally) -> io::Result<()> {
+    let cases = t.cases;
+    let failed = t.failed;
+    println!(rt; "{path}: {cases} cases, {failed} failed")
 }
 
-fn replay(path: &[u8]) {
-    let fd = os::open_read(path);
-    if fd < 0 {
-        os::fail(path);
-        return;
+// A file that can't be opened is told, and passed over.
+fn replay(rt: &HostRuntime, path: &str) -> io::Result<()> {
+    match File::open(rt, path) {
+        Ok(mut file) => {
+            let t = all_lines(rt, path, &mut file)?;
+            print_counts(rt, path, t)
+        }
+        Err(error) => {
+            tell_failure(&mut rt.stderr(), path.as_bytes(), error);
+            Ok(())
+        }
     }
-    let t = all_lines(path, fd);
-    libc::close(fd);
-    print_counts(path, t);
 }
 
-fn main() {
-    replay(b"add.tsv");
-    replay(b"sub.tsv");
-    replay(b"cmp.tsv");
-    replay(b"addx.tsv");
-    replay(b"subx.tsv");
-    replay(b"adda.tsv");
-    replay(b"suba.tsv");
-    replay(b"cmpa.tsv");
-    replay(b"addq.tsv");
-    replay(b"subq.tsv");
-    replay(b"addqa.tsv");
-    replay(b"subqa.tsv");
-    replay(b"clr.tsv");
-    replay(b"neg.tsv");
-    replay(b"negx.tsv");
-    replay(b"not.tsv");
-    replay(b"ext.tsv");
-    replay(b"asl.tsv");
-    replay(b"asr.tsv");
-    replay(b"lsl.tsv");
-    replay(b"lsr.tsv");
-    replay(b"rol.tsv");
-    replay(b"ror.tsv");
-    replay(b"roxl.tsv");
-    replay(b"roxr.tsv");
-    replay(b"btst.tsv");
-    replay(b"bset.tsv");
-    replay(b"bclr.tsv");
-    replay(b"bchg.tsv");
-    replay(b"chk.tsv");
+fn main(rt: HostRuntime) -> io::Result<()> {
+    replay(&rt, "add.tsv")?;
+    replay(&rt, "sub.tsv")?;
+    replay(&rt, "cmp.tsv")?;
+    replay(&rt, "addx.tsv")?;
+    replay(&rt, "subx.tsv")?;
+    replay(&rt, "adda.tsv")?;
+    replay(&rt, "suba.tsv")?;
+    replay(&rt, "cmpa.tsv")?;
+    replay(&rt, "addq.tsv")?;
+    replay(&rt, "subq.tsv")?;
+    replay(&rt, "addqa.tsv")?;
+    replay(&rt, "subqa.tsv")?;
+    replay(&rt, "clr.tsv")?;
+    replay(&rt, "neg.tsv")?;
+    replay(&rt, "negx.tsv")?;
+    replay(&rt, "not.tsv")?;
+    replay(&rt, "ext.tsv")?;
+    replay(&rt, "asl.tsv")?;
+    replay(&rt, "asr.tsv")?;
+    replay(&rt, "lsl.tsv")?;
+    replay(&rt, "lsr.tsv")?;
+    replay(&rt, "rol.tsv")?;
+    replay(&rt, "ror.tsv")?;
+    replay(&rt, "roxl.tsv")?;
+    replay(&rt, "roxr.tsv")?;
+    replay(&rt, "btst.tsv")?;
+    replay(&rt, "bset.tsv")?;
+    replay(&rt, "bclr.tsv")?;
+    replay(&rt, "bchg.tsv")?;
+    replay(&rt, "chk.tsv")
 }

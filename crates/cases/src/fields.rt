@@ -89,7 +89,7 @@ pub(crate) fn text_of(row: &[u8], tab: usize, out: &mut [u8]) -> Text
 {
     let mut length = 0;
     let mut state = 0;
-    let mut at = std::num::wrapping_add_usize(tab, 1);
+    let mut at = tab.wrapping_add(1);
     while at < row.len() {
         let b = row[at];
         if (b == TAB) | (state == NONE) {

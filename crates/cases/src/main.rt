@@ -10,7 +10,11 @@ mod texts;
 ghost use Rattle.std.specs.Prelude.{◌≤◌, length};
 ghost use Rattle.io.specs.Counts.{IsPrefixLen};
 
-use libc::STDOUT_FILENO;
+use input::read_text;
+use std::fs::File;
+use std::io;
+use std::rt::Files;
+use text::parts::first;
 
 // Room for a file. One that fills it is too long, and its last line is not whole.
 const FILE: usize = 65536;
@@ -40,24 +44,12 @@ fn judge(kind: Kind, row: &[u8], name: usize) -> bool {
     }
 }
 
-fn put(text: &[u8]) {
-    io::write_all(STDOUT_FILENO, text);
-}
-
-fn put_number(n: u64) {
-    io::print_decimal(STDOUT_FILENO, n);
-}
-
-fn report(path: &[u8], line: u64, row: &[u8], name: usize)
+fn report<R: Print>(rt: &R, path: &str, line: u64, row: &[u8], name: usize) -> io::Result<()>
     requires { name ≤ length row.now }
 {
-    put(b"failed: ");
-    put(&row[0..name]);
-    put(b" (");
-    put(path);
-    put(b" line ");
-    put_number(line);
-    put(b")\n");
+    print!(rt; "failed: ")?;
+    rt.write_all(&row[0..name])?;
+    println!(rt; " ({path} line {line})")
 }
 
 fn is_comment(row: &[u8]) -> bool {
@@ -70,31 +62,38 @@ fn is_comment(row: &[u8]) -> bool {
 fn counted(t: Tally, failed: u64) -> Tally {
     Tally {
         lines: t.lines,
-        cases: std::num::wrapping_add_u64(t.cases, 1),
-        failed: std::num::wrapping_add_u64(t.failed, failed),
+        cases: t.cases.wrapping_add(1),
+        failed: t.failed.wrapping_add(failed),
     }
 }
 
 // One more line; one that is not whole fails.
-fn with_line(t: Tally, path: &[u8], kind: Kind, row: &[u8], whole: bool) -> Tally {
+fn with_line<R: Print>(
+    rt: &R,
+    t: Tally,
+    path: &str,
+    kind: Kind,
+    row: &[u8],
+    whole: bool,
+) -> io::Result<Tally> {
     let t = Tally {
-        lines: std::num::wrapping_add_u64(t.lines, 1),
+        lines: t.lines.wrapping_add(1),
         cases: t.cases,
         failed: t.failed,
     };
     if is_comment(row) {
-        return t;
+        return Ok(t);
     }
-    let name = bytes::scan::find(row, 0, row.len(), b'\t');
+    let name = first(row, b'\t');
     if whole & judge(kind, row, name) {
-        return counted(t, 0);
+        return Ok(counted(t, 0));
     }
-    report(path, t.lines, row, name);
-    counted(t, 1)
+    report(rt, path, t.lines, row, name)?;
+    Ok(counted(t, 1))
 }
 
 // The tally of all lines.
-fn all_lines(path: &[u8], kind: Kind, file: &[u8]) -> Tally
+fn all_lines<R: Print>(rt: &R, path: &str, kind: Kind, file: &[u8]) -> io::Result<Tally>
     requires { length file.now ≤ 65536 }
 {
     let mut t = Tally {
@@ -104,46 +103,39 @@ fn all_lines(path: &[u8], kind: Kind, file: &[u8]) -> Tally
     };
     let mut at = 0;
     while at < file.len() {
-        let end = bytes::scan::find(file, at, file.len(), b'\n');
-        t = with_line(
-            t,
-            path,
-            kind,
-            &file[at..end],
-            (end < file.len()) & (end < LAST),
-        );
+        let end = at + first(&file[at..], b'\n');
+        let whole = (end < file.len()) & (end < LAST);
+        t = with_line(rt, t, path, kind, &file[at..end], whole)?;
         at = end + 1;
     }
-    t
+    Ok(t)
 }
 
-fn read_file(path: &[u8], file: &mut [u8]) -> usize
+// The bytes of a file, as far as there is room; of one that can't be read none.
+fn read_file<R: Files>(files: &R, path: &str, file: &mut [u8]) -> usize
     ensures { IsPrefixLen result file.new }
 {
-    let fd = os::open_read(path);
-    let length = io::read_full(fd, file);
-    libc::close(fd);
-    length
+    match File::open(files, path) {
+        Ok(mut opened) => read_text(&mut opened, file).n,
+        Err(_) => 0,
+    }
 }
 
-fn tell(path: &[u8], t: Tally) {
-    put(path);
-    put(b": ");
-    put_number(t.cases);
-    put(b" cases, ");
-    put_number(t.failed);
-    put(b" failed\n");
+fn tell<R: Print>(rt: &R, path: &str, t: Tally) -> io::Result<()> {
+    let cases = t.cases;
+    let failed = t.failed;
+    println!(rt; "{path}: {cases} cases, {failed} failed")
 }
 
-fn replay(path: &[u8], kind: Kind) {
+fn replay<R: Files + Print>(rt: &R, path: &str, kind: Kind) -> io::Result<()> {
     let mut file = [0u8; FILE];
-    let length = read_file(path, &mut file);
-    let t = all_lines(path, kind, &file[..length]);
-    tell(path, t);
+    let length = read_file(rt, path, &mut file);
+    let t = all_lines(rt, path, kind, &file[..length])?;
+    tell(rt, path, t)
 }
 
-fn main() {
-    replay(b"refusals.tsv", Kind::Refusals);
-    replay(b"runs.tsv", Kind::Runs);
-    replay(b"recipes.tsv", Kind::Recipes);
+fn main(rt: HostRuntime) -> io::Result<()> {
+    replay(&rt, "refusals.tsv", Kind::Refusals)?;
+    replay(&rt, "runs.tsv", Kind::Runs)?;
+    replay(&rt, "recipes.tsv", Kind::Recipes)
 }

@@ -75,8 +75,8 @@ fn continued(listing: &[u64], first: Run, budget: u32) -> Run {
     let one = first.told;
     let second = ran(listing, first, one[3], budget);
     let mut told = second.told;
-    told[4] = std::num::wrapping_add_u64(one[4], told[4]);
-    told[5] = std::num::wrapping_add_u64(one[5], told[5]);
+    told[4] = one[4].wrapping_add(told[4]);
+    told[5] = one[5].wrapping_add(told[5]);
     let d = second.d;
     let a = second.a;
     Run {
@@ -91,7 +91,7 @@ fn continued(listing: &[u64], first: Run, budget: u32) -> Run {
 fn halted(listing: &[u64], v: [u64; COLUMNS], steps: u32) -> bool {
     let first = ran(listing, state(v, 4), v[1], steps);
     let told = first.told;
-    let left = std::num::wrapping_sub_u32(long(v[2]), steps);
+    let left = long(v[2]).wrapping_sub(steps);
     let good = told[4] == steps as u64;
     if 1 < told[0] {
         return good & as_told(first, v);

@@ -21,7 +21,7 @@ fn prints(row: &[u8], tab: usize, text: &[u8]) -> bool {
     let mut out = [0u8; ROOM];
     let want = text_of(row, tab, &mut printed);
     let n = answered(text, &mut out);
-    (want.end == row.len()) & (want.length == n) & check::same(&out, &printed)
+    (want.end == row.len()) & (want.length == n) & (out == printed)
 }
 
 // D0 to D7 from a column on.

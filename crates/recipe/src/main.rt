@@ -7,9 +7,9 @@ ghost use Rattle.std.specs.Prelude.{◌≡◌, take};
 ghost use Rattle.io.specs.Counts.{IsPrefixLen};
 ghost use Rattle.recipes.specs.Printer.{answer_of};
 
-use input::read_text;
-use libc::{STDIN_FILENO, STDOUT_FILENO};
+use input::{read_text, tell_failure};
 use recipes::types::{PRINT_MAX, TEXT_MAX};
+use std::io::Write;
 
 // The whole answer to a text: the slice has room for any (`answer_short` of recipes/proofs/Room).
 fn answer(text: &[u8], out: &mut [u8; PRINT_MAX]) -> usize
@@ -19,17 +19,17 @@ fn answer(text: &[u8], out: &mut [u8; PRINT_MAX]) -> usize
     recipes::runner::answer(text, out)
 }
 
-fn main() {
+fn main(rt: HostRuntime) {
     let mut text = [0u8; TEXT_MAX];
-    let input = read_text(STDIN_FILENO, &mut text);
-    if !input.ok {
-        os::fail(b"recipe: standard input");
+    let input = read_text(&mut rt.stdin(), &mut text);
+    if let Some(error) = input.failed {
+        tell_failure(&mut rt.stderr(), b"recipe: standard input", error);
         return;
     }
     let n = input.n;
     let mut out = [0u8; PRINT_MAX];
     let m = answer(&text[..n], &mut out);
-    if !io::write_all(STDOUT_FILENO, &out[..m]) {
-        os::fail(b"recipe: standard output");
+    if let Err(error) = rt.stdout().write_all(&out[..m]) {
+        tell_failure(&mut rt.stderr(), b"recipe: standard output", error);
     }
 }

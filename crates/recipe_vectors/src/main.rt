@@ -11,9 +11,10 @@ ghost use Rattle.std.specs.Prelude.{◌≡◌, ◌≤◌, length};
 ghost use Rattle.io.specs.Counts.{IsPrefixLen};
 
 use header::{is_header, read_header, text_length};
-use libc::{STDIN_FILENO, STDOUT_FILENO};
 use recipes::types::TEXT_MAX;
 use replay::{Replayed, Slip, is_slip, replay, without_run};
+use std::io;
+use std::io::Read;
 
 #[derive(Clone, Copy)]
 struct Tally {
@@ -43,17 +44,17 @@ fn without_text(came: Came) -> Input
 }
 
 // Reads n bytes, or as many as there are.
-fn read_text(text: &mut [u8], n: usize) -> usize
+fn read_text<R: Read>(from: &mut R, text: &mut [u8], n: usize) -> usize
     requires { n ≤ length text.old }
 {
-    io::read_full(STDIN_FILENO, &mut text[..n])
+    input::read_text(from, &mut text[..n]).n
 }
 
 // Reads the next vector, its header and its text.
-fn next(head: &mut [u8; 369], text: &mut [u8]) -> Input
+fn next<R: Read>(from: &mut R, head: &mut [u8; 369], text: &mut [u8]) -> Input
     ensures { IsPrefixLen result.length text.new }
 {
-    let got = io::read_full(STDIN_FILENO, head);
+    let got = input::read_text(from, head).n;
     if got == 0 {
         return without_text(Came::End);
     }
@@ -64,7 +65,7 @@ fn next(head: &mut [u8; 369], text: &mut [u8]) -> Input
     if length > text.len() {
         return without_text(Came::Malformed);
     }
-    if read_text(text, length) < length {
+    if read_text(from, text, length) < length {
         return without_text(Came::Malformed);
     }
     Input {
@@ -73,61 +74,48 @@ fn next(head: &mut [u8; 369], text: &mut [u8]) -> Input
     }
 }
 
-fn put(text: &[u8]) {
-    io::write_all(STDOUT_FILENO, text);
-}
-
-fn put_number(n: u64) {
-    io::print_decimal(STDOUT_FILENO, n);
-}
-
-fn put_slip(slip: Slip) {
+fn words(slip: Slip) -> &'static str {
     match slip {
-        Slip::Nothing => {}
-        Slip::Malformed => put(b"no vector"),
-        Slip::Reading => put(b"the text is refused"),
-        Slip::Translation => put(b"the recipe is refused"),
-        Slip::Count => put(b"the number of steps"),
-        Slip::Halt => put(b"the halt"),
-        Slip::Middle => put(b"the middle"),
-        Slip::End => put(b"the end"),
-        Slip::Clocks => put(b"the clocks"),
-        Slip::Data => put(b"the data registers"),
-        Slip::Address => put(b"the address registers"),
-        Slip::Flags => put(b"the flags"),
-        Slip::Recipe => put(b"the recipe run as a whole"),
+        Slip::Nothing => "",
+        Slip::Malformed => "no vector",
+        Slip::Reading => "the text is refused",
+        Slip::Translation => "the recipe is refused",
+        Slip::Count => "the number of steps",
+        Slip::Halt => "the halt",
+        Slip::Middle => "the middle",
+        Slip::End => "the end",
+        Slip::Clocks => "the clocks",
+        Slip::Data => "the data registers",
+        Slip::Address => "the address registers",
+        Slip::Flags => "the flags",
+        Slip::Recipe => "the recipe run as a whole",
     }
 }
 
-fn report(recipe: u64, place: u64, slip: Slip) {
-    put(b"failed: recipe ");
-    put_number(recipe);
-    put(b", place ");
-    put_number(place);
-    put(b": ");
-    put_slip(slip);
-    put(b"\n");
+fn report<R: Print>(rt: &R, recipe: u64, place: u32, slip: Slip) -> io::Result<()> {
+    let what = words(slip);
+    println!(rt; "failed: recipe {recipe}, place {place}: {what}")
 }
 
 // One more vector in the tally.
-fn counted(t: Tally, replayed: Replayed) -> Tally {
-    let recipes = std::num::wrapping_add_u64(t.recipes, 1);
-    let runs = std::num::wrapping_add_u64(t.runs, replayed.runs);
+fn counted<R: Print>(rt: &R, t: Tally, replayed: Replayed) -> io::Result<Tally> {
+    let recipes = t.recipes.wrapping_add(1);
+    let runs = t.runs.wrapping_add(replayed.runs);
     let slip = replayed.slip;
     let mut failed = t.failed;
     if is_slip(slip) {
-        report(recipes, replayed.place as u64, slip);
-        failed = std::num::wrapping_add_u64(failed, 1);
+        report(rt, recipes, replayed.place, slip)?;
+        failed = failed.wrapping_add(1);
     }
-    Tally {
+    Ok(Tally {
         recipes,
         runs,
         failed,
-    }
+    })
 }
 
 // The tally of all vectors. A proved loop has to end: it counts down from more than any input has.
-fn all_vectors() -> Tally {
+fn all_vectors<R: Print, I: Read>(rt: &R, from: &mut I) -> io::Result<Tally> {
     let mut t = Tally {
         recipes: 0,
         runs: 0,
@@ -137,30 +125,28 @@ fn all_vectors() -> Tally {
     while turns > 0 {
         let mut head = [0u8; 369];
         let mut text = [0u8; TEXT_MAX];
-        let input = next(&mut head, &mut text);
+        let input = next(from, &mut head, &mut text);
         let came = input.came;
         match came {
             Came::End => {
-                return t;
+                return Ok(t);
             }
             Came::Malformed => {
-                return counted(t, without_run(Slip::Malformed));
+                return counted(rt, t, without_run(Slip::Malformed));
             }
             Came::Whole => {}
         }
         let n = input.length;
-        t = counted(t, replay(read_header(&head), &text[..n]));
+        t = counted(rt, t, replay(read_header(&head), &text[..n]))?;
         turns -= 1;
     }
-    t
+    Ok(t)
 }
 
-fn main() {
-    let t = all_vectors();
-    put_number(t.recipes);
-    put(b" recipes, ");
-    put_number(t.runs);
-    put(b" runs, ");
-    put_number(t.failed);
-    put(b" failed\n");
+fn main(rt: HostRuntime) -> io::Result<()> {
+    let t = all_vectors(&rt, &mut rt.stdin())?;
+    let recipes = t.recipes;
+    let runs = t.runs;
+    let failed = t.failed;
+    println!(rt; "{recipes} recipes, {runs} runs, {failed} failed")
 }

@@ -175,7 +175,7 @@ fn halted_at_each(vector: Vector, listing: [Step; SLOTS]) -> Replayed {
     let mut runs: u64 = 0;
     for place in 0..=count {
         let slip = halted_at(vector, listing, place);
-        runs = std::num::wrapping_add_u64(runs, 2);
+        runs = runs.wrapping_add(2);
         if is_slip(slip) {
             return Replayed { runs, slip, place };
         }
@@ -199,7 +199,7 @@ fn step_by_step(vector: Vector, listing: [Step; SLOTS]) -> Replayed {
             return Replayed { runs, slip, place };
         }
         ran = resumed(listing, steps, ran, 1);
-        runs = std::num::wrapping_add_u64(runs, 1);
+        runs = runs.wrapping_add(1);
     }
     Replayed {
         runs,
@@ -212,7 +212,7 @@ fn step_by_step(vector: Vector, listing: [Step; SLOTS]) -> Replayed {
 fn then(first: Replayed, second: Replayed) -> Replayed {
     let slip = second.slip;
     Replayed {
-        runs: std::num::wrapping_add_u64(first.runs, second.runs),
+        runs: first.runs.wrapping_add(second.runs),
         slip,
         place: second.place,
     }

@@ -1,17 +1,11 @@
 -- What the functions that run a recipe cite: a refused recipe, and a recipe that was run by the rule. Assumes nothing.
 use mathlib.Core.Path.{◌≡◌, refl, sym, ap, ap₂, ◌∙◌, subst, subst⁻¹}
 use mathlib.Core.Bool.{true, false, true≢false}
-use mathlib.Core.List.{List, [], ◌∷◌, map}
+use mathlib.Core.List.{List, [], ◌∷◌}
 use Prim.Native.Nat.{ℕ, zero, suc, ◌-◌, ◌<◌, ◌≤◌}
 use native.Mathlib.Omega.{arith}
 use lib.ListN.{length, get_or, take}
 use lib.Seq.{get_or-take, length-take-le}
-use mir.Syntax.{w32}
-use mir.Val.{Val}
-use denote.Array.{each}
-use denote.Plain.{UInt}
-use denote.Shadow.{shadow}
-use borrow.Author.Rules.{length_unmapped, elem_fits_field}
 use Rattle.alu.specs.declared.types.Flags.{Flags}
 use Rattle.step.specs.declared.registers.State.{State}
 use Rattle.step.specs.declared.forms.Step.{Step}
@@ -37,10 +31,6 @@ use Rattle.recipes.proofs.Accepting.{Good, width_is, tests_agree}
 use Rattle.recipes.proofs.Settling.{whole_fits, blanks_fit, blanks_count}
 use Rattle.recipes.proofs.Agreeing.{read_sound, good_passes, good_translates, translated_good}
 use Rattle.recipes.proofs.Demand.{one_by_one, ruled_registers}
-
--- what owning a register set tells of its data registers
-pub longs_owned : (d : List ℕ) (us : List Val) → shadow (each ℕ (UInt w32).own_val (map (λ (v : ℕ). v) d) us) → length (map (λ (v : ℕ). v) d) ≡ 8 → EightLongs d
-longs_owned d us p e = record { count = length_unmapped ℕ d 8 e; each = λ i. (elem_fits_field w32 w32 d us i p tt).fits }
 
 -- ---- what is told of the flags
 

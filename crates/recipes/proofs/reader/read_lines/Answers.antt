@@ -1,0 +1,85 @@
+-- `recipes::reader::read_lines` meets its contract: a turn of the loop reads one line, by `proofs/LineByLine.antt`.
+-- Assumes nothing.
+use Prim.Native.Nat.{ℕ, ◌+◌, ◌≤◌, ◌<◌}
+use mathlib.Core.Path.{◌≡◌, refl, sym, ap, ◌∙◌}
+use mathlib.Core.List.{List, [], ◌∷◌, ◌++◌}
+use native.Mathlib.Omega.{arith}
+use lib.ListN.{length, length-append}
+use borrow.Author.Rules.{rules}
+use Rattle.recipes.specs.declared.types.Line.{Line}
+use Rattle.recipes.specs.Reader.{padded, or_slip, lines_of}
+use Rattle.text.specs.Text.{before, after}
+use Rattle.recipes.specs.Recipe.{lines_max}
+use Rattle.text.proofs.Texts.{from, first_by}
+use Rattle.recipes.proofs.Columns.{past_first}
+use Rattle.recipes.proofs.LineByLine.{lines_many, lines_cut, lines_next, lines_done, padded_more}
+use Rattle.recipes.proofs.reader.read_lines.Goals as goal
+use Rattle.recipes.proofs.reader.read_lines.Goals.{After-read_line}
+use Rattle.recipes.proofs.reader.read_lines.Invariants.{SoFar}
+
+-- past the test on the count
+room : {width count : ℕ} {text left : List ℕ} {lines : List Line} → (s : SoFar width text lines count left) → (count ≡ lines_max → ⊥) → length s.ls < lines_max
+room s n =
+    let m = s.many in
+    let w = s.within in
+    omega (arith, n)
+
+-- a whole line was read
+turn : (c : After-read_line)
+    → let w = c.args.width in
+    let left = c.loop-left.left.now in
+    let rest = from (c.first-end.result + 1) left in
+    lines_of w [] (before 10 c.args.text.now) (after 10 c.args.text.now)
+    ≡ or_slip c.read_line.result (c.loop-left.count + 2) (λ x. lines_of w (c.loop-left.invariant.ls ++ (x ∷ [])) (before 10 rest) (after 10 rest))
+turn c =
+    let s = c.loop-left.invariant in
+    let r = room c.loop-left.invariant c.if-count-eq-LINES_MAX.false in
+    rw (s.rest, (first_by c.first-end.ensures).some c.if-left-end.false, lines_next, (first_by c.first-end.ensures).front, ← c.read_line.ensures, ← s.many)
+
+pub loop-left-init : goal.loop-left-init
+loop-left-init c = record { ls = []; many = refl; within = search rules; short = search rules; stored = c.no_lines-lines.ensures; rest = refl }
+
+pub returns-then-count-eq-LINES_MAX : goal.returns-then-count-eq-LINES_MAX
+returns-then-count-eq-LINES_MAX c =
+    let s = c.loop-left.invariant in
+    let e : length s.ls ≡ lines_max = sym s.many ∙ c.if-count-eq-LINES_MAX.true in
+    rw (s.rest, lines_many _ _ _ c.loop-left-test.true e, ← s.many) c.refused_at.ensures
+
+pub overflow_add-column : goal.overflow_add-column
+overflow_add-column c = let within = (first_by c.first-end.ensures).within in search rules
+
+pub returns-then-left-end : goal.returns-then-left-end
+returns-then-left-end c =
+    let s = c.loop-left.invariant in
+    let h = c.if-left-end.true in
+    let whole = (first_by c.first-end.ensures).whole h in
+    let e : c.first-end.result ≡ length c.loop-left.left.now = c.first-end.ensures ∙ ap length whole in
+    rw (s.rest, (first_by c.first-end.ensures).none h, whole, lines_cut _ _ _ c.loop-left-test.true (room c.loop-left.invariant c.if-count-eq-LINES_MAX.false), ← s.many, past_first, ← e) c.refused_at-then-left-end.ensures
+
+pub slice_bounds-read_line-end : goal.slice_bounds-read_line-end
+slice_bounds-read_line-end c =
+    let f = first_by c.first-end.ensures in
+    let within = f.within in
+    let counted = f.counted in
+    search rules
+
+pub returns-in-Slip : goal.returns-in-Slip
+returns-in-Slip c = rw (turn (goal.at.returns-in-Slip c).After-read_line, c.in-Slip.is) c.refused_at-in-Slip.ensures
+
+pub loop-left-preserved : goal.loop-left-preserved
+loop-left-preserved c =
+    let s = c.loop-left.invariant in
+    let l = c.in-Read.line in
+    record {
+      ls = s.ls ++ (l ∷ []);
+      many = rw length-append (omega arith);
+      within = search rules;
+      short = search rules;
+      stored = rw (s.stored, s.many) (padded_more s.ls l (room c.loop-left.invariant c.if-count-eq-LINES_MAX.false));
+      rest = rw (turn (goal.at.loop-left-preserved c).After-read_line, c.in-Read.is);
+    }
+
+pub returns : goal.returns
+returns c =
+    let s = c.loop-left.invariant in
+    rw (s.rest, lines_done _ _ _ c.loop-left-test.false) (rw (s.many, s.stored) at (rw c.no_refusal.ensures at c.reading.ensures))
