@@ -1,5 +1,6 @@
 """What a check of a crate with wrong text says of the function or the law that must fail, for the tools that try such text."""
 import collections
+import os
 import pathlib
 import re
 import shutil
@@ -92,6 +93,14 @@ def own_fact(every):
     return (True, said(facts[0])) if facts else (False, "no fact of its own fails")
 
 
+def link_or_copy(one, other):
+    """A second name for what a check kept: it replaces such a file, and changes none."""
+    try:
+        return os.link(one, other) if one.endswith(".oantt") else shutil.copy2(one, other)
+    except OSError:
+        return shutil.copy2(one, other)
+
+
 def checked(folder, texts):
     """All that a check of the crate says with these texts of its files. It begins with what an earlier check kept, if there is such."""
     known, name = crates.listed(), folder.name
@@ -104,7 +113,7 @@ def checked(folder, texts):
             (to / file).write_text(text, encoding="utf-8", errors="surrogateescape")
         kept = to / "kept"
         if (folder / "out/incremental").is_dir():
-            shutil.copytree(folder / "out/incremental", kept, symlinks=True)
+            shutil.copytree(folder / "out/incremental", kept, symlinks=True, copy_function=link_or_copy)
         root = "src/main.rt" if crates.is_program(name) else "src/lib.rt"
         words = [str(crates.kit() / "bin/rattle"), "check", "--crate-name", name, root, *crates.words_over(known, known[name][1]), "--jobs", "1"]
         words += ["--links", f"{name}=", "--incremental", str(kept)] + ["--crate-type", "staticlib"] * crates.is_static(known, name)
