@@ -16,7 +16,6 @@ use Rattle.step.specs.declared.forms.Operation.{Operation}
 use Rattle.step.specs.declared.forms.Operation.TheVariants.{Two, Address, Quick, QuickAddress, One, Shift, Bit, Chk}
 use Rattle.step.specs.declared.forms.Register.TheVariants as Register
 use Rattle.step.specs.declared.forms.Form.{Form}
-use Rattle.step.specs.declared.forms.Form.TheVariants as Form
 use Rattle.step.specs.declared.registers.State.{State}
 use Rattle.step.specs.Registers.{data_of, address_of}
 use Rattle.step.specs.Operations as step

@@ -7,7 +7,6 @@ use native.Mathlib.Nat.{div-one}
 use Rattle.step.specs.declared.forms.Form.{Form}
 use Rattle.step.specs.declared.forms.Operation.{Operation}
 use Rattle.step.specs.declared.forms.Found.{Found}
-use Rattle.step.specs.declared.forms.Found.TheVariants as Found
 use Rattle.step.specs.Operations.{operation_at}
 use Rattle.recipe_calls.specs.declared.words.Made.{Made}
 use Rattle.recipe_calls.specs.declared.words.Made.TheVariants.{Is, NoForm}

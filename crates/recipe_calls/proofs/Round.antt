@@ -12,7 +12,6 @@ use Rattle.alu.specs.declared.types.Size.TheVariants.{Byte, Word, Long}
 use Rattle.step.specs.declared.forms.Register.TheVariants as Register
 use Rattle.step.specs.declared.forms.Count.TheVariants as Count
 use Rattle.step.specs.declared.forms.Form.{Form}
-use Rattle.step.specs.declared.forms.Form.TheVariants as Form
 use Rattle.step.specs.declared.forms.Step.{Step}
 use Rattle.step.specs.declared.forms.Operation.{Operation}
 use Rattle.step.specs.Operations.{operation_number, operation_of}

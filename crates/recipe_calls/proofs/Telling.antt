@@ -2,16 +2,13 @@
 --     passed            a text that the reader reads
 --     fits, short       a translation made in an array, handed to a row that has room for it, and to one that has not: that into as many slots
 use Prim.Native.Nat.{ℕ, ◌≤◌, ◌<◌}
-use mathlib.Core.Bool.{true, false}
-use mathlib.Core.Path.{◌≡◌, refl, sym, ap, ◌∙◌}
-use mathlib.Core.List.{List, ◌∷◌, ◌++◌}
+use mathlib.Core.Bool.{true}
+use mathlib.Core.Path.{◌≡◌, sym, ap, ◌∙◌}
+use mathlib.Core.List.{List}
 use borrow.Author.Tests.{le-ltb, lt-ltb}
-use lib.ListN.{length, get_or, take, drop, replicate, length-replicate}
+use lib.ListN.{length, take, drop, replicate, length-replicate}
 use lib.Seq.{take_at, length-take-le}
 use Rattle.step.specs.declared.forms.Step.{Step}
-use Rattle.step.specs.declared.runs.End.{End}
-use Rattle.step.specs.declared.runs.End.TheVariants.{Finished, Budget, Trapped, Refused}
-use Rattle.step.specs.Run.{end_numbers}
 use Rattle.recipes.specs.declared.types.Recipe.{Recipe}
 use Rattle.recipes.specs.declared.types.Refusal.TheVariants.{NoSpace}
 use Rattle.recipes.specs.declared.types.Reading.{Reading}

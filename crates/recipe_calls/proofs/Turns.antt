@@ -2,12 +2,12 @@
 --     pasted   a turn of a loop that copies an array into a row
 --     filled   where a loop that fills an array ends
 use Prim.Native.Nat.{ℕ, suc, ◌+◌, ◌≤◌, ◌<◌, min}
-use mathlib.Core.Path.{◌≡◌, refl, ap, sym, ◌∙◌}
-use mathlib.Core.List.{List, [], ◌∷◌, ◌++◌, map}
+use mathlib.Core.Path.{◌≡◌, ap, ◌∙◌}
+use mathlib.Core.List.{List, map}
 use native.Mathlib.Decide.{dec_le}
 use native.Mathlib.Omega.{arith}
-use lib.ListN.{length, take, drop, get_or, set, length-drop}
-use lib.Seq.{take_all, take-suc, take-suc-set, get_or-drop, paste, paste-suc}
+use lib.ListN.{length, take, get_or, set}
+use lib.Seq.{take_all, paste, paste-suc}
 use Rattle.alu.specs.declared.types.Size.TheVariants.{Byte}
 use Rattle.step.specs.declared.forms.TwoOp.TheVariants.{Add}
 use Rattle.step.specs.declared.forms.Form.TheVariants.{Two}

@@ -3,16 +3,12 @@ use Rattle.std.specs.Prelude.{ℕ, ◌+◌, ◌*◌, ◌/◌, ◌%◌, ◌^◌, 
 use Rattle.alu.specs.declared.types.Size.{Size}
 use Rattle.alu.specs.declared.types.Size.TheVariants.{Byte, Word, Long}
 use Rattle.step.specs.declared.forms.Register.{Register}
-use Rattle.step.specs.declared.forms.Register.TheVariants as Register
 use Rattle.step.specs.declared.forms.Count.{Count}
-use Rattle.step.specs.declared.forms.Count.TheVariants as Count
 use Rattle.step.specs.declared.forms.Form.{Form}
-use Rattle.step.specs.declared.forms.Form.TheVariants as Form
 use Rattle.step.specs.declared.forms.Step.{Step}
 use Rattle.step.specs.declared.forms.Operation.{Operation}
 use Rattle.step.specs.declared.forms.Operation.TheVariants.{Two, Address, Quick, QuickAddress, One, Shift, Bit, Chk}
 use Rattle.step.specs.declared.forms.Found.{Found}
-use Rattle.step.specs.declared.forms.Found.TheVariants as Found
 use Rattle.step.specs.Operations.{operation_at, operation_number, operation_of}
 use Rattle.step.specs.Run.{array_slots}
 use Rattle.step.specs.Lines.{with_line}
