@@ -9,10 +9,7 @@ import collections
 import io
 import itertools
 import os
-import platform
 import re
-import shutil
-import subprocess
 import sys
 
 ROOT = os.path.dirname(os.path.dirname(os.path.realpath(__file__)))
@@ -504,14 +501,8 @@ def said(doc, *usual):
 
 
 def command_of(program):
-    """How ./run starts a program, which it has built: by its name, or a path to it. It is x86-64 code; elsewhere the kit's emulator runs it."""
-    path = os.path.abspath(program) if "/" in program else os.path.join(ROOT, "target/bin", program)
+    """How ./run starts a program, which it has built: by its name, or a path to it."""
+    path = os.path.abspath(program) if "/" in program else os.path.join(ROOT, "crates", program, "out", program)
     if not (os.path.isfile(path) and os.access(path, os.X_OK)):
         stop(f"{path} is not there to run; ./run {os.path.basename(program)} builds it")
-    if platform.machine() == "x86_64":
-        return [path]
-    doc = shutil.which("rt") and subprocess.run(["rt", "doc"], stdout=subprocess.PIPE, text=True, check=False).stdout.strip()
-    if not doc:
-        stop("no `rt doc` of the Rattle kit, which has the emulator for this machine")
-    tools = os.path.join(os.path.dirname(os.path.dirname(doc)), "on", platform.machine(), "toolchain")
-    return [f"{tools}/bin/qemu-x86_64", f"{tools}/lib/ld-linux-x86-64.so.2", "--library-path", f"{tools}/lib", path]
+    return [path]

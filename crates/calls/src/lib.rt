@@ -73,6 +73,7 @@ fn pack_checked(checked: Checked) -> u64
 
 // The operation of that number, its answer packed. Each arm unpacks and packs by itself: the compiler then leaves out
 // what an operation does not need.
+#[tactic(auto, unfolding(crate::specs::Packed::operations, crate::specs::Packed::chosen))]
 fn answer(op: u8, size: Size, src: u32, dst: u32, ccr: u8) -> u64
     ensures { result ≡ packed (answer_of op size src dst (flags_of ccr)) }
 {

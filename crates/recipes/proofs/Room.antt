@@ -11,9 +11,7 @@ use lib.ListN.{length, take, length-append, length-take}
 use Rattle.alu.specs.declared.types.Size.{Size}
 use Rattle.alu.specs.declared.types.Size.TheVariants.{Byte, Word, Long}
 use Rattle.step.specs.declared.forms.Register.{Register}
-use Rattle.step.specs.declared.forms.Register.TheVariants as Register
 use Rattle.step.specs.declared.forms.Count.{Count}
-use Rattle.step.specs.declared.forms.Count.TheVariants as Count
 use Rattle.step.specs.declared.forms.Form.{Form}
 use Rattle.step.specs.declared.forms.Form.TheVariants.{Two, Address, Quick, One, Shift, Bit, Chk}
 use Rattle.step.specs.declared.forms.Step.{Step}

@@ -5,7 +5,6 @@ use Rattle.step.specs.declared.registers.State.{State}
 use Rattle.step.specs.declared.forms.OneOp.TheVariants.{Clr}
 use Rattle.step.specs.declared.forms.Count.TheVariants.{Small}
 use Rattle.step.specs.declared.forms.Form.{Form}
-use Rattle.step.specs.declared.forms.Form.TheVariants as Form
 use Rattle.step.specs.declared.forms.Step.{Step}
 use Rattle.step.specs.Perform.{perform_of}
 use Rattle.step.specs.Run.{array_slots}

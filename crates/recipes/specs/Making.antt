@@ -22,7 +22,7 @@ use Rattle.recipes.specs.declared.printer.Operand.{Operand}
 use Rattle.recipes.specs.declared.printer.Operand.TheVariants.{Numbered, Absent}
 use Rattle.text.specs.Text.{ascii, decimal_of}
 use Rattle.recipes.specs.Recipe.{at_line, no_refusal, way_of, target, recipe_lines, Accepted}
-use Rattle.recipes.specs.Listing.{step_of, steps_at, steps_of, lines_pass, tested}
+use Rattle.recipes.specs.Listing.{step_of, steps_of, lines_pass, tested}
 
 -- ---- printing
 

@@ -1,7 +1,7 @@
 -- A step's clock figure. It is its operation's but for document 02's six, which are 4 or 2 above it or 2 below (`figure_differs`); a refused step has 0
 -- (`refused_free` of Sound). It is below 2 ^ 8 (`perform_small`), so it has 32 bits, which is all that the laws of runs ask of it (`perform_fits`).
 -- Assumes nothing.
-use Rattle.std.proofs.Common.{◌≡◌, ℕ, ◌+◌, ◌^◌, ◌<◌, ◌≤◌, Bool, true, false, cond, ◌&&◌, ltb, refl, ap, ◌∙◌, arith, lit<, lit≤}
+use Rattle.std.proofs.Common.{◌≡◌, ℕ, ◌+◌, ◌^◌, ◌<◌, Bool, true, false, cond, ◌&&◌, ltb, refl, ap, ◌∙◌, arith, lit<, lit≤}
 use Rattle.alu.specs.declared.types.Size.{Size}
 use Rattle.alu.specs.declared.types.Size.TheVariants.{Byte, Word, Long}
 use Rattle.alu.specs.declared.types.Flags.{Flags}

@@ -1,6 +1,6 @@
 -- The lines that steps carry have no effect but to be told. Without them a listing runs the same: `run_bare`, in parts `parts_bare`; so two listings that
 -- differ in lines alone run alike: `lines_only`. A trap and a refusal tell the line of the step at their place: `line_told`. Assumes nothing.
-use Rattle.std.proofs.Common.{◌≡◌, ℕ, zero, suc, true, List, [], ◌∷◌, map, sym, refl, ap, ◌∙◌, subst}
+use Rattle.std.proofs.Common.{◌≡◌, ℕ, zero, suc, true, List, [], ◌∷◌, map, sym, refl, ap, ◌∙◌}
 use mathlib.Core.Path.{subst⁻¹}
 use Rattle.step.specs.declared.registers.State.{State}
 use Rattle.step.specs.declared.forms.Step.{Step}
@@ -8,7 +8,6 @@ use Rattle.step.specs.declared.steps.Outcome.{Outcome}
 use Rattle.step.specs.declared.steps.Outcome.TheVariants.{Done, Trapped, Refused}
 use Rattle.step.specs.declared.steps.Performed.{Performed}
 use Rattle.step.specs.declared.runs.End.{End}
-use Rattle.step.specs.declared.runs.End.TheVariants as End
 use Rattle.step.specs.declared.runs.Ran.{Ran}
 use Rattle.step.specs.Perform.{perform_of}
 use Rattle.step.specs.Run.{Spot, here, at_end, past_end, spot_of, ends, counted, after, followed, met, run_of}

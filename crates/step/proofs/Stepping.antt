@@ -16,7 +16,6 @@ use Rattle.step.specs.declared.registers.State.{State}
 use Rattle.step.specs.declared.registers.D.{D}
 use Rattle.step.specs.declared.registers.A.{A}
 use Rattle.step.specs.declared.forms.Count.{Count}
-use Rattle.step.specs.declared.forms.Count.TheVariants as Count
 use Rattle.step.specs.declared.forms.Step.{Step}
 use Rattle.step.specs.declared.steps.Came.{Came}
 use Rattle.step.specs.declared.steps.Came.TheVariants as How

@@ -8,7 +8,6 @@ use Rattle.alu.specs.declared.types.Size.TheVariants.{Byte}
 use Rattle.step.specs.declared.forms.Form.TheVariants.{Chk}
 use Rattle.step.specs.declared.forms.Step.{Step}
 use Rattle.step.specs.declared.forms.Count.{Count}
-use Rattle.step.specs.declared.forms.Count.TheVariants as Count
 use Rattle.step.specs.declared.steps.Acted.{Acted}
 use Rattle.step.specs.declared.steps.Came.{Came}
 use Rattle.step.specs.declared.steps.Came.TheVariants as How
@@ -20,7 +19,6 @@ use Rattle.step.specs.declared.steps.Outcome.{Outcome}
 use Rattle.step.specs.declared.steps.Outcome.TheVariants.{Done, Trapped, Refused}
 use Rattle.step.specs.declared.steps.Performed.{Performed}
 use Rattle.step.specs.declared.runs.End.{End}
-use Rattle.step.specs.declared.runs.End.TheVariants as End
 use Rattle.step.specs.declared.runs.Left.{Left}
 use Rattle.step.specs.declared.runs.Halted.{Halted}
 use Rattle.step.specs.declared.runs.Course.{Course}

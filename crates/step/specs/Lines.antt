@@ -4,7 +4,6 @@ use Rattle.std.specs.Prelude.{◌≡◌, ℕ, List, map}
 use Rattle.step.specs.declared.registers.State.{State}
 use Rattle.step.specs.declared.forms.Step.{Step}
 use Rattle.step.specs.declared.runs.End.{End}
-use Rattle.step.specs.declared.runs.End.TheVariants as End
 use Rattle.step.specs.declared.runs.Ran.{Ran}
 use Rattle.step.specs.Perform.{perform_of}
 use Rattle.step.specs.Run.{Spot, here, at_end, past_end, spot_of, run_of}

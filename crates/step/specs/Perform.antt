@@ -27,9 +27,7 @@ use Rattle.step.specs.declared.forms.QuickOp.TheVariants.{Addq, Subq}
 use Rattle.step.specs.declared.forms.OneOp.{OneOp}
 use Rattle.step.specs.declared.forms.OneOp.TheVariants.{Clr, Neg, Negx, Not, Ext}
 use Rattle.step.specs.declared.forms.Register.{Register}
-use Rattle.step.specs.declared.forms.Register.TheVariants as Register
 use Rattle.step.specs.declared.forms.Count.{Count}
-use Rattle.step.specs.declared.forms.Count.TheVariants as Count
 use Rattle.step.specs.declared.forms.Form.{Form}
 use Rattle.step.specs.declared.forms.Form.TheVariants.{Two, Address, Quick, One, Shift, Bit, Chk}
 use Rattle.step.specs.declared.forms.Step.{Step}

@@ -1,12 +1,10 @@
 -- `recipes::printer::put_steps` meets its contract: a turn of the loop writes one line behind the others. Assumes nothing.
-use Prim.Native.Nat.{◌-◌, ◌≤◌, ◌<◌}
+use Prim.Native.Nat.{◌<◌}
 use mathlib.Core.Path.{◌≡◌}
-use native.Mathlib.Omega.{arith}
-use lib.Seq.{take_all}
 use lib.ListN.{length}
 use borrow.Author.Rules.{rules}
 use Rattle.recipes.specs.Printer.{steps_text}
-use Rattle.text.proofs.Writing.{wrote_none, wrote_length, then}
+use Rattle.text.proofs.Writing.{wrote_none, then}
 use Rattle.recipes.proofs.Steps.{mapped}
 use Rattle.recipes.proofs.Printing.{steps_next}
 use Rattle.step.specs.Run.{array_slots}
@@ -16,19 +14,8 @@ pub loop-k-init : goal.loop-k-init
 unfolding steps_text
 loop-k-init c = let h : length c.args.steps ≡ array_slots = search mapped in (search rules, search rules, h, wrote_none _ _)
 
-pub returns-then-count-k : goal.returns-then-count-k
-returns-then-count-k c = let l = c.loop-k in let e : l.k ≡ c.args.count = omega arith in rw e at l.invariant.3
-
 pub loop-k-preserved : goal.loop-k-preserved
 loop-k-preserved c =
     let l = c.loop-k in
     let h : l.k < length c.args.steps = search rules in
     (search rules, search rules, l.invariant.2, rw (steps_next _ _ h) (then _ _ _ _ l.invariant.3 c.put_step-next.ensures))
-
-pub returns : goal.returns
-returns c =
-    let l = c.loop-k in
-    let a = c.args in
-    let all : length a.steps ≤ a.count = search rules in
-    let done : length a.steps ≤ l.k = search rules in
-    rw (take_all _ _ all) (rw (take_all _ _ done) at l.invariant.3)

@@ -1,6 +1,5 @@
 -- `recipes::reader::read` meets its contract: what stands before the first byte 10 is the width line, and what stands behind it are the lines.
 -- Assumes nothing.
-use borrow.Author.Rules.{rules}
 use borrow.Author.Tests.{eq-eqb, ne_eqb}
 use Rattle.recipes.specs.Reader.{read_of}
 use Rattle.text.proofs.Texts.{first_by}
@@ -9,13 +8,6 @@ use Rattle.recipes.proofs.reader.read.Goals as goal
 pub returns-then-text-end : goal.returns-then-text-end
 unfolding read_of
 returns-then-text-end c = rw ((first_by c.first-end.ensures).none c.if-text-end.true) c.refused_at.ensures
-
-pub slice_bounds-read_width-end : goal.slice_bounds-read_width-end
-slice_bounds-read_width-end c =
-    let f = first_by c.first-end.ensures in
-    let within = f.within in
-    let counted = f.counted in
-    search rules
 
 pub returns-then-width-eq0 : goal.returns-then-width-eq0
 unfolding read_of

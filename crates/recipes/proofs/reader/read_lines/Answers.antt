@@ -1,13 +1,13 @@
 -- `recipes::reader::read_lines` meets its contract: a turn of the loop reads one line, by `proofs/LineByLine.antt`.
 -- Assumes nothing.
-use Prim.Native.Nat.{ℕ, ◌+◌, ◌≤◌, ◌<◌}
-use mathlib.Core.Path.{◌≡◌, refl, sym, ap, ◌∙◌}
+use Prim.Native.Nat.{ℕ, ◌+◌, ◌<◌}
+use mathlib.Core.Path.{◌≡◌, sym, ap, ◌∙◌}
 use mathlib.Core.List.{List, [], ◌∷◌, ◌++◌}
 use native.Mathlib.Omega.{arith}
 use lib.ListN.{length, length-append}
 use borrow.Author.Rules.{rules}
 use Rattle.recipes.specs.declared.types.Line.{Line}
-use Rattle.recipes.specs.Reader.{padded, or_slip, lines_of}
+use Rattle.recipes.specs.Reader.{or_slip, lines_of}
 use Rattle.text.specs.Text.{before, after}
 use Rattle.recipes.specs.Recipe.{lines_max}
 use Rattle.text.proofs.Texts.{from, first_by}
@@ -36,9 +36,6 @@ turn c =
     let r = room c.loop-left.invariant c.if-count-eq-LINES_MAX.false in
     rw (s.rest, (first_by c.first-end.ensures).some c.if-left-end.false, lines_next, (first_by c.first-end.ensures).front, ← c.read_line.ensures, ← s.many)
 
-pub loop-left-init : goal.loop-left-init
-loop-left-init c = record { ls = []; many = refl; within = search rules; short = search rules; stored = c.no_lines-lines.ensures; rest = refl }
-
 pub returns-then-count-eq-LINES_MAX : goal.returns-then-count-eq-LINES_MAX
 returns-then-count-eq-LINES_MAX c =
     let s = c.loop-left.invariant in
@@ -55,13 +52,6 @@ returns-then-left-end c =
     let whole = (first_by c.first-end.ensures).whole h in
     let e : c.first-end.result ≡ length c.loop-left.left.now = c.first-end.ensures ∙ ap length whole in
     rw (s.rest, (first_by c.first-end.ensures).none h, whole, lines_cut _ _ _ c.loop-left-test.true (room c.loop-left.invariant c.if-count-eq-LINES_MAX.false), ← s.many, past_first, ← e) c.refused_at-then-left-end.ensures
-
-pub slice_bounds-read_line-end : goal.slice_bounds-read_line-end
-slice_bounds-read_line-end c =
-    let f = first_by c.first-end.ensures in
-    let within = f.within in
-    let counted = f.counted in
-    search rules
 
 pub returns-in-Slip : goal.returns-in-Slip
 returns-in-Slip c = rw (turn (goal.at.returns-in-Slip c).After-read_line, c.in-Slip.is) c.refused_at-in-Slip.ensures

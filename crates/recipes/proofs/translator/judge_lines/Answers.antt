@@ -22,13 +22,6 @@ returns-then-not-passes c =
     rw (c.at_line.ensures, c.check_line-refusal.ensures) at c.translation.ensures
     ∙ passed_slip _ _ _ _ _ l.invariant.1 c.loop-k-test.true (rw c.check_line-refusal.ensures at is)
 
-pub overflow_add-steps : goal.overflow_add-steps
-overflow_add-steps c =
-    let l = c.loop-k in
-    let h = l.invariant.1.few in
-    let m = c.steps_of-steps.ensures.1 in
-    search rules
-
 pub loop-k-preserved : goal.loop-k-preserved
 loop-k-preserved c =
     let l = c.loop-k in

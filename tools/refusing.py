@@ -1,0 +1,120 @@
+"""What a check of a crate with wrong text says of the function or the law that must fail, for the tools that try such text."""
+import collections
+import os
+import pathlib
+import re
+import shutil
+import subprocess
+import tempfile
+
+import crates
+
+HEAD = re.compile(r"^( *)(?:#\[[^\]]*\]\s*)*(?:pub(?:\([^)]*\))?\s+)?(?:extern\s+\"C\"\s+)?fn\s+(\w+)", re.M)
+TOLD = re.compile(r"^(?:note: )?(?:\./)?((?:src|specs|proofs)/\S+?):(\d+):(\d+): (.*)$")
+NOT_PROVED = re.compile(r"it is not proved that ")  # what a note at a place of src/ begins with
+THROUGH = "was not admitted"  # what it cites is not proved: no fact of its own
+GONE = [  # the proof names what the edit took away
+    "that can be named from here",
+    "has no field `",
+    "` is not in scope",
+    "` names nothing here",
+    "names no implicit argument",
+    "explicit arguments? more than",
+    "proves only a path",
+]
+LIMIT = "antt ran out of |outgrew the memory limit|stopped at the step limit"  # it gave no verdict
+MISSED = [  # a step of the proof does not meet its goal: no fact, though another of the function's may be
+    "no occurrence of the path's",
+    "`: no part of the (goal|hypothesis)",
+    "is checked against `.*which is not a",
+]
+
+Told = collections.namedtuple("Told", "path line text block")  # block: with the lines that belong to it
+
+
+def read(path):
+    return path.read_text(encoding="utf-8", errors="surrogateescape")
+
+
+def function_at(text, at):
+    """The name of the function whose text is at that place, or nothing."""
+    heads = [head for head in HEAD.finditer(text) if head.start() <= at]
+    if heads and 0 <= at <= text.find(f"\n{heads[-1][1]}}}", heads[-1].start()):
+        return heads[-1][2]
+    return None
+
+
+def module_of(file):
+    module = pathlib.PurePath(file).with_suffix("").parts[1:]
+    return () if module == ("lib",) else module
+
+
+def told_of(text):
+    """What a check tells at places of the crate's files."""
+    found = []
+    for line in text.splitlines():
+        if at := TOLD.match(line):
+            found.append(Told(at[1], int(at[2]), at[4], [line]))
+        elif line.startswith(" ") and found and found[-1].block:
+            found[-1].block.append(line)
+        else:
+            found.append(Told("", 0, "", []))  # what follows belongs to nothing
+    return [told for told in found if told.block]
+
+
+def concerns(aim, crate, told):
+    """Whether it is told of the function or the law. An edit moves no line."""
+    if aim[0] == "law":
+        return told.path == aim[1] and told.text.startswith(f"error: `{aim[2]}`:")
+    if told.path.startswith("proofs/"):
+        place = pathlib.PurePath(told.path).parent.parts[1:]  # a method has its type's folder between
+        return place[-1:] == aim[-1:] and place[: len(aim) - 2] == aim[1:-1]
+    if not told.path.startswith("src/") or module_of(told.path) != aim[1:-1] or not NOT_PROVED.match(told.text):
+        return False
+    text = read(crate / told.path)
+    return function_at(text, sum(len(line) + 1 for line in text.split("\n")[: told.line - 1])) == aim[-1]
+
+
+def says(patterns, told):
+    return re.search("|".join(patterns), "\n".join(told.block), re.S)
+
+
+def said(told):
+    return f"{told.path}:{told.line}: {told.text}"
+
+
+def own_fact(every):
+    """Of what is told of one function or law: whether a fact of its own fails, and the words."""
+    own = [told for told in every if THROUGH not in told.text and (told.path.startswith("src/") or "error: " in told.text)]
+    gone = [told for told in own if says(GONE, told)]
+    facts = [told for told in own if not says([*MISSED, LIMIT], told)]
+    if own and (gone or not facts):
+        return False, f"only its proof no longer fits, or a limit was met: {said((gone or own)[0])}"
+    return (True, said(facts[0])) if facts else (False, "no fact of its own fails")
+
+
+def link_or_copy(one, other):
+    """A second name for what a check kept: it replaces such a file, and changes none."""
+    try:
+        return os.link(one, other) if one.endswith(".oantt") else shutil.copy2(one, other)
+    except OSError:
+        return shutil.copy2(one, other)
+
+
+def checked(folder, texts):
+    """All that a check of the crate says with these texts of its files. It begins with what an earlier check kept, if there is such."""
+    known, name = crates.listed(), folder.name
+    with tempfile.TemporaryDirectory() as room:
+        to = pathlib.Path(room, name)
+        for part in crates.PARTS:
+            if (folder / part).is_dir():
+                shutil.copytree(folder / part, to / part)
+        for file, text in texts.items():
+            (to / file).write_text(text, encoding="utf-8", errors="surrogateescape")
+        kept = to / "kept"
+        if (folder / "out/incremental").is_dir():
+            shutil.copytree(folder / "out/incremental", kept, symlinks=True, copy_function=link_or_copy)
+        root = "src/main.rt" if crates.is_program(name) else "src/lib.rt"
+        words = [str(crates.kit() / "bin/rattle"), "check", "--crate-name", name, root, *crates.words_over(known, known[name][1]), "--jobs", "1"]
+        words += ["--links", f"{name}=", "--incremental", str(kept)] + ["--crate-type", "staticlib"] * crates.is_static(known, name)
+        return subprocess.run(words, cwd=to, stdin=subprocess.DEVNULL, stdout=subprocess.PIPE, stderr=subprocess.STDOUT, errors="replace").stdout
