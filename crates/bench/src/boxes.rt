@@ -1,6 +1,6 @@
 // A rack of boxes: a row for each, which is the run on it alone. A file has a line for each box, of words as the program itself
 // takes them, with blanks or tabs between; what a line does not say, the program's own words say for every box.
-ghost use Rattle.std.specs.Prelude.{◌≤◌, length};
+ghost use Rattle.std.specs.Prelude.{◌≡◌, ◌≤◌, length};
 ghost use Rattle.io.specs.Counts.{IsPrefixLen};
 
 use crate::course::whole_run;
@@ -12,11 +12,15 @@ use crate::pen::{
 };
 use crate::table::{numbering, sizes};
 use crate::words::{Asked, OF_A_BOX, Taking, WORD_ROOM, is_taken, report, tell, unsaid, with_text};
-use input::{Input, read_text};
-use libc::STDERR_FILENO;
+use input::{Input, read_text, tell_failure};
 use recipes::types::{Listing, Recipe};
+use std::env::Env;
+use std::fs::File;
+use std::io::{Error, ErrorKind, Write};
+use std::rt::Files;
 use step::racks::{BOXES_MAX, number, plan};
 use step::runs::Ran;
+use text::parts::first;
 use text::types::NEWLINE;
 
 // The most bytes of a file: as many lines as a rack has boxes, of 255 bytes and a line end. `report_long` has both written out.
@@ -41,6 +45,13 @@ struct Line {
     last: Taking,
     at: usize,
     end: usize,
+}
+
+// So many bytes of a file were read; `ok` is false where it can't be read or is too long.
+#[derive(Clone, Copy)]
+struct Lines {
+    n: usize,
+    ok: bool,
 }
 
 // The first place from `from` on with a blank or a tab, or with none; the line's end where there is no such place.
@@ -103,13 +114,12 @@ fn count_lines(file: &[u8]) -> usize {
 
 // Line k, from 0.
 fn line_of<'a>(file: &'a [u8], k: usize) -> &'a [u8] {
-    let from = line_start(file, k);
-    let end = bytes::scan::find(file, from, file.len(), NEWLINE);
-    &file[from..end]
+    let left = &file[line_start(file, k)..];
+    &left[..first(left, NEWLINE)]
 }
 
 // Whether line k, from 0, is understood. A word that is not taken is reported.
-fn check_line(name: &[u8], k: usize, line: &[u8], asked: Asked) -> bool {
+fn check_line<W: Write>(to: &mut W, name: &[u8], k: usize, line: &[u8], asked: Asked) -> bool {
     let read = read_line(line, asked);
     let last = read.last;
     if is_taken(last) {
@@ -117,20 +127,19 @@ fn check_line(name: &[u8], k: usize, line: &[u8], asked: Asked) -> bool {
     }
     let at = read.at;
     let end = read.end;
-    tell(b"bench: line ");
-    io::print_decimal(STDERR_FILENO, std::num::wrapping_add_u64(k as u64, 1));
-    tell(b" of ");
-    tell(name);
-    tell(b": ");
-    report(&line[at..end], last, OF_A_BOX);
+    let number = (k as u64).wrapping_add(1);
+    let _ = write!(to, "bench: line {number} of ");
+    tell(to, name);
+    tell(to, b": ");
+    report(to, &line[at..end], last, OF_A_BOX);
     false
 }
 
 // Whether all lines are.
-fn check_lines(name: &[u8], file: &[u8], count: usize, asked: Asked) -> bool {
+fn check_lines<W: Write>(to: &mut W, name: &[u8], file: &[u8], count: usize, asked: Asked) -> bool {
     let mut k = 0;
     while k < count {
-        if !check_line(name, k, line_of(file, k), asked) {
+        if !check_line(to, name, k, line_of(file, k), asked) {
             return false;
         }
         k += 1;
@@ -295,7 +304,8 @@ fn put_refusal(out: &mut [u8], refusal: u64) -> usize {
 }
 
 // The boxes are counted before their words are looked at; each has a start place and a row.
-fn put_rack(
+fn put_rack<W: Write>(
+    to: &mut W,
     out: &mut [u8],
     name: &[u8],
     file: &[u8],
@@ -310,68 +320,90 @@ fn put_rack(
     if refusal != 0 {
         return put_refusal(out, refusal);
     }
-    if !check_lines(name, file, count, asked) {
+    if !check_lines(to, name, file, count, asked) {
         return 0;
     }
     put_table(out, file, count, asked, recipe, made)
 }
 
-// The bytes of a file, as far as there is room.
-fn open_and_read(name: &[u8], file: &mut [u8]) -> Input
+fn unread(error: Error) -> Input
+    ensures { result.n ≡ 0 }
+{
+    Input {
+        n: 0,
+        failed: Some(error),
+    }
+}
+
+// The bytes of a file, as far as there is room. A name that is no text can't be opened.
+fn open_and_read<R: Files>(files: &R, name: &[u8], file: &mut [u8]) -> Input
     ensures { IsPrefixLen result.n file.new }
 {
-    let fd = os::open_read(name);
-    if fd < 0 {
-        return Input { n: 0, ok: false };
+    let Ok(path) = str::from_utf8(name) else {
+        return unread(Error::from(ErrorKind::InvalidFilename));
+    };
+    match File::open(files, path) {
+        Ok(mut opened) => read_text(&mut opened, file),
+        Err(error) => unread(error),
     }
-    let input = read_text(fd, file);
-    libc::close(fd);
-    input
 }
 
-fn report_failed(name: &[u8]) {
-    tell(b"bench: ");
-    os::fail(name);
+fn report_failed<W: Write>(to: &mut W, name: &[u8], error: Error) {
+    tell(to, b"bench: ");
+    tell_failure(to, name, error);
 }
 
-fn report_long(name: &[u8]) {
-    tell(b"bench: ");
-    tell(name);
-    tell(b" has more than 16384 bytes, which is 64 lines of 255 with their line ends\n");
+fn report_long<W: Write>(to: &mut W, name: &[u8]) {
+    tell(to, b"bench: ");
+    tell(to, name);
+    tell(
+        to,
+        b" has more than 16384 bytes, which is 64 lines of 255 with their line ends\n",
+    );
 }
 
 // The same. Where it can't be read or is too long, that is reported, and `ok` is false.
-fn read_file(name: &[u8], file: &mut [u8]) -> Input
+fn read_file<R: Files, W: Write>(files: &R, to: &mut W, name: &[u8], file: &mut [u8]) -> Lines
     ensures { IsPrefixLen result.n file.new }
 {
-    let input = open_and_read(name, file);
-    if !input.ok {
-        report_failed(name);
-        return input;
-    }
+    let input = open_and_read(files, name, file);
     let n = input.n;
-    if FILE_MAX < n {
-        report_long(name);
+    if let Some(error) = input.failed {
+        report_failed(to, name, error);
+        return Lines { n, ok: false };
     }
-    Input {
+    if FILE_MAX < n {
+        report_long(to, name);
+    }
+    Lines {
         n,
         ok: n <= FILE_MAX,
     }
 }
 
-fn put_named(out: &mut [u8], name: &[u8], asked: Asked, recipe: Recipe, made: Listing) -> usize {
+fn put_named<R: Files, W: Write>(
+    files: &R,
+    to: &mut W,
+    out: &mut [u8],
+    name: &[u8],
+    asked: Asked,
+    recipe: Recipe,
+    made: Listing,
+) -> usize {
     let mut file = [0u8; FILE_ROOM];
-    let input = read_file(name, &mut file);
-    if !input.ok {
+    let lines = read_file(files, to, name, &mut file);
+    if !lines.ok {
         return 0;
     }
-    let n = input.n;
-    put_rack(out, name, &file[..n], asked, recipe, made)
+    let n = lines.n;
+    put_rack(to, out, name, &file[..n], asked, recipe, made)
 }
 
-// Word i of the program names the file, behind six bytes. Answers the next place of `out`: 0, with the cause on standard error,
+// Word i of the program names the file, behind six bytes. Answers the next place of `out`: 0, with the cause told,
 // where the file can't be read or a line is not understood.
-pub(crate) fn put_run(
+pub(crate) fn put_run<R: Env + Files, W: Write>(
+    rt: &R,
+    to: &mut W,
     out: &mut [u8],
     asked: Asked,
     i: usize,
@@ -379,7 +411,7 @@ pub(crate) fn put_run(
     made: Listing,
 ) -> usize {
     let mut word = [0u8; WORD_ROOM];
-    let n = os::arg(i, &mut word);
+    let n = rt.arg(i, &mut word).unwrap_or(0);
     let from = within(6, &word[..n]);
-    put_named(out, &word[from..n], asked, recipe, made)
+    put_named(rt, to, out, &word[from..n], asked, recipe, made)
 }

@@ -16,22 +16,31 @@ mod slips;
 mod table;
 mod words;
 
-use input::read_text;
-use libc::{STDIN_FILENO, STDOUT_FILENO};
+use input::{read_text, tell_failure};
 use pen::within;
 use recipes::printer::print_refusal;
 use recipes::reader::read;
 use recipes::translator::translate_array;
 use recipes::types::{Recipe, TEXT_MAX, is_nothing};
 use slips::put_slip;
+use std::env::Env;
+use std::io::Write;
+use std::rt::Files;
 use words::{Words, read_words};
 
 // A recipe that was read is always translated.
-fn put_run(out: &mut [u8], words: Words, text: &[u8], recipe: Recipe) -> usize {
+fn put_run<R: Env + Files, W: Write>(
+    rt: &R,
+    to: &mut W,
+    out: &mut [u8],
+    words: Words,
+    text: &[u8],
+    recipe: Recipe,
+) -> usize {
     let asked = words.asked;
     let made = translate_array(recipe);
     if 0 < words.file {
-        boxes::put_run(out, asked, words.file, recipe, made)
+        boxes::put_run(rt, to, out, asked, words.file, recipe, made)
     } else if asked.rows {
         rows::put_run(out, asked, made)
     } else {
@@ -45,7 +54,13 @@ fn put_run(out: &mut [u8], words: Words, text: &[u8], recipe: Recipe) -> usize {
 const ROOM: usize = 65536;
 
 // The whole answer to a text.
-fn answer(out: &mut [u8], words: Words, text: &[u8]) -> usize {
+fn answer<R: Env + Files, W: Write>(
+    rt: &R,
+    to: &mut W,
+    out: &mut [u8],
+    words: Words,
+    text: &[u8],
+) -> usize {
     let asked = words.asked;
     let reading = read(text);
     let refused = reading.refused;
@@ -57,25 +72,26 @@ fn answer(out: &mut [u8], words: Words, text: &[u8]) -> usize {
         }
         return put_slip(out, next, text, refused);
     }
-    put_run(out, words, text, recipe)
+    put_run(rt, to, out, words, text, recipe)
 }
 
-fn main() {
-    let words = read_words();
+fn main(rt: HostRuntime) {
+    let mut told = rt.stderr();
+    let words = read_words(&rt, &mut told);
     if !words.understood {
         return;
     }
     let mut text = [0u8; TEXT_MAX];
-    let input = read_text(STDIN_FILENO, &mut text);
-    if !input.ok {
-        os::fail(b"bench: standard input");
+    let input = read_text(&mut rt.stdin(), &mut text);
+    if let Some(error) = input.failed {
+        tell_failure(&mut told, b"bench: standard input", error);
         return;
     }
     let n = input.n;
     let mut out = [0u8; ROOM];
-    let m = answer(&mut out, words, &text[..n]);
+    let m = answer(&rt, &mut told, &mut out, words, &text[..n]);
     let m = within(m, &out);
-    if !io::write_all(STDOUT_FILENO, &out[..m]) {
-        os::fail(b"bench: standard output");
+    if let Err(error) = rt.stdout().write_all(&out[..m]) {
+        tell_failure(&mut told, b"bench: standard output", error);
     }
 }

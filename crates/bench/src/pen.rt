@@ -91,7 +91,7 @@ pub(crate) fn put_decimal(pen: Pen, n: u64) -> Pen {
 pub(crate) fn put_right(pen: Pen, column: usize, n: u64) -> Pen {
     let mut digits = [0u8; 20];
     let k = io::decimal(n, &mut digits);
-    let next = tab(pen, std::num::wrapping_sub_usize(column, k));
+    let next = tab(pen, column.wrapping_sub(k));
     put(next, &digits[..k])
 }
 

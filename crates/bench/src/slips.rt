@@ -6,6 +6,7 @@ use crate::pen::{
     tab, within,
 };
 use recipes::types::{Refused, number};
+use text::parts::first;
 use text::types::NEWLINE;
 
 // The most bytes of a line that are shown; where the column lies beyond, so many of them stand before it.
@@ -102,7 +103,8 @@ fn advice(number: u8) -> Pen {
 pub(crate) fn put_slip(out: &mut [u8], at: usize, text: &[u8], refused: Refused) -> usize {
     let refusal = refused.refusal;
     let from = line_start(text, place_of(refused.line));
-    let end = bytes::scan::find(text, from, text.len(), NEWLINE);
-    let next = put_shown(out, at, refused, &text[from..end]);
+    let left = &text[from..];
+    let end = first(left, NEWLINE);
+    let next = put_shown(out, at, refused, &left[..end]);
     put_line(out, next, advice(number(refusal)))
 }

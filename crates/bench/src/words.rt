@@ -4,9 +4,10 @@ ghost use Rattle.std.specs.Prelude.{◌<◌, ◌≤◌};
 use crate::pen::{at_start, within};
 use crate::slips::put_start;
 use alu::types::Flags;
-use check::same;
-use libc::STDERR_FILENO;
+use std::env::{Env, FillError};
+use std::io::Write;
 use step::registers::State;
+use text::parts::{first, same};
 
 // The things that a word gives have numbers: those of a box first, which are the registers, the flags and `from`; then `steps`,
 // `rows` and `boxes`, which the program's own words alone give; and one for a word that is not understood. (In contracts
@@ -191,7 +192,7 @@ fn read_word(word: &[u8]) -> Word {
     if same(word, b"rows") {
         return Word::Rows;
     }
-    let mark = bytes::scan::find(word, 0, word.len(), b'=');
+    let mark = first(word, b'=');
     if word.len() <= mark {
         return Word::Unknown;
     }
@@ -378,58 +379,68 @@ pub(crate) fn with_text(said: Said, text: &[u8], things: usize) -> Said {
     }
 }
 
-pub(crate) fn tell(text: &[u8]) {
-    io::write_all(STDERR_FILENO, text);
+// Where it can't be written, nothing more is said.
+pub(crate) fn tell<W: Write>(to: &mut W, text: &[u8]) {
+    let _ = to.write_all(text);
 }
 
 // A word made visible, as a refused line is.
-fn tell_seen(text: &[u8]) {
+fn tell_seen<W: Write>(to: &mut W, text: &[u8]) {
     let pen = put_start(at_start(), text);
     let line = pen.line;
     let n = within(pen.at, &line);
-    tell(&line[..n]);
+    tell(to, &line[..n]);
 }
 
 // Says why a word was not taken. Where it stands is said before.
-pub(crate) fn report(text: &[u8], last: Taking, things: usize) {
-    tell_seen(text);
+pub(crate) fn report<W: Write>(to: &mut W, text: &[u8], last: Taking, things: usize) {
+    tell_seen(to, text);
     if let Taking::Again = last {
-        tell(b" is a second word for the same thing: each is given once\n");
+        tell(
+            to,
+            b" is a second word for the same thing: each is given once\n",
+        );
         return;
     }
-    tell(b" is not understood: D0=HEX..D7=HEX, A0=HEX..A7=HEX, X= N= Z= V= C= 0 or 1, from=PLACE");
+    tell(
+        to,
+        b" is not understood: D0=HEX..D7=HEX, A0=HEX..A7=HEX, X= N= Z= V= C= 0 or 1, from=PLACE",
+    );
     if OF_A_BOX < things {
-        tell(b", steps=COUNT, rows, boxes=FILE");
+        tell(to, b", steps=COUNT, rows, boxes=FILE");
     }
-    tell(b"\n");
+    tell(to, b"\n");
 }
 
 // One word of the program more. One that is not taken is reported.
-fn with_told(said: Said, text: &[u8]) -> Said {
+fn with_told<W: Write>(to: &mut W, said: Said, text: &[u8]) -> Said {
     let next = with_text(said, text, OF_THE_PROGRAM);
     let last = next.last;
     if !is_taken(last) {
-        tell(b"bench: ");
-        report(text, last, OF_THE_PROGRAM);
+        tell(to, b"bench: ");
+        report(to, text, last, OF_THE_PROGRAM);
     }
     next
 }
 
-// Word i of the program more. What is said of one that is too long is no word either.
-fn with_argument(said: Said, i: usize) -> Said {
+// Word i of the program more, where there is one. What is said of one that is too long is no word either.
+fn with_argument<E: Env, W: Write>(env: &E, to: &mut W, said: Said, i: usize) -> Option<Said> {
     let mut buffer = [0u8; WORD_ROOM];
-    let n = os::arg(i, &mut buffer);
-    if os::errno() != 0 {
-        return with_told(said, b"a word of more than 1024 bytes");
+    match env.arg(i, &mut buffer) {
+        Ok(n) => Some(with_told(to, said, &buffer[..n])),
+        Err(FillError::TooLong) => Some(with_told(to, said, b"a word of more than 1024 bytes")),
+        Err(FillError::NotPresent) => None,
     }
-    with_told(said, &buffer[..n])
 }
 
 // All words were taken. Plain rows are of one run, so that they do not go with boxes.
-fn judged(asked: Asked, file: usize) -> Words {
+fn judged<W: Write>(to: &mut W, asked: Asked, file: usize) -> Words {
     let both = asked.rows & (0 < file);
     if both {
-        tell(b"bench: rows is not understood with boxes=FILE: it shows one run\n");
+        tell(
+            to,
+            b"bench: rows is not understood with boxes=FILE: it shows one run\n",
+        );
     }
     Words {
         asked,
@@ -439,13 +450,14 @@ fn judged(asked: Asked, file: usize) -> Words {
 }
 
 // All words; reading ends at the first that is not taken. Word 0 is the program's own name.
-pub(crate) fn read_words() -> Words {
-    let count = os::arg_count();
+pub(crate) fn read_words<E: Env, W: Write>(env: &E, to: &mut W) -> Words {
     let mut said = unsaid(unasked());
     let mut file = 0;
-    let mut i = 1;
-    while i < count {
-        said = with_argument(said, i);
+    for i in 1..usize::MAX {
+        let Some(next) = with_argument(env, to, said, i) else {
+            break;
+        };
+        said = next;
         let last = said.last;
         let given = said.given;
         if !is_taken(last) {
@@ -459,8 +471,7 @@ pub(crate) fn read_words() -> Words {
         if given[BOXES] & (file == 0) {
             file = i;
         }
-        i += 1;
     }
     let asked = said.asked;
-    judged(asked, file)
+    judged(to, asked, file)
 }
