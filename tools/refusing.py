@@ -83,11 +83,12 @@ def said(told):
     return f"{told.path}:{told.line}: {told.text}"
 
 
-def own_fact(every):
-    """Of what is told of one function or law: whether a fact of its own fails, and the words."""
+def own_fact(every, takes_steps=False):
+    """Of what is told of one function or law: whether a fact of its own fails, and the words. `takes_steps`: a step of the proof that does not meet its
+    goal counts as one."""
     own = [told for told in every if THROUGH not in told.text and (told.path.startswith("src/") or "error: " in told.text)]
     gone = [told for told in own if says(GONE, told)]
-    facts = [told for told in own if not says([*MISSED, LIMIT], told)]
+    facts = [told for told in own if not says([*(() if takes_steps else MISSED), LIMIT], told)]
     if own and (gone or not facts):
         return False, f"only its proof no longer fits, or a limit was met: {said((gone or own)[0])}"
     return (True, said(facts[0])) if facts else (False, "no fact of its own fails")
