@@ -1,5 +1,4 @@
 -- `carry::carried` is safe and ends: it counts the steps down. Assumes nothing.
-use Rattle.std.proofs.Common.{◌-◌}
 use Rattle.bench.proofs.carry.carried.Given as goal
 
 abbrev pub decreases-loop-left : goal.decreases-loop-left

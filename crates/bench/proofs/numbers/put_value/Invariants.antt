@@ -1,5 +1,5 @@
 -- `numbers::put_value` is safe and ends: it counts the digits down. Assumes nothing.
-use Rattle.std.proofs.Common.{◌≤◌, ◌≡◌, ◌-◌, length}
+use Rattle.std.proofs.Common.{◌≤◌, ◌≡◌, length}
 use Rattle.bench.proofs.numbers.put_value.Given as goal
 
 abbrev pub invariant-loop-i : goal.invariant-loop-i

@@ -1,5 +1,4 @@
 -- `rows::put_rows` is safe and ends: it counts the steps down, and the slice keeps its length. Assumes nothing.
-use Rattle.std.proofs.Common.{◌-◌}
 use Rattle.bench.proofs.rows.put_rows.Given as goal
 
 abbrev pub decreases-loop-left : goal.decreases-loop-left
