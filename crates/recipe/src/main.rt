@@ -1,6 +1,6 @@
 // Reads a recipe from standard input and prints its listing, or its refusal, on standard output. Only the first
 // `TEXT_MAX` bytes of the input are read: a longer text meets its refusal within them. Where reading or writing fails, standard
-// error says why; the exit status is 0 all the same, since the language has no other.
+// error says why; the exit status is 0 all the same.
 #![tactic(auto)]
 
 ghost use Rattle.std.specs.Prelude.{◌≡◌, take};
