@@ -1,4 +1,5 @@
 """What a check of a crate with wrong text says of the function or the law that must fail, for the tools that try such text."""
+import atexit
 import collections
 import os
 import pathlib
@@ -6,6 +7,7 @@ import re
 import shutil
 import subprocess
 import tempfile
+import threading
 
 import crates
 
@@ -102,20 +104,41 @@ def link_or_copy(one, other):
         return shutil.copy2(one, other)
 
 
+BEGUN, ONE_BY_ONE = {}, threading.Lock()
+
+
+def begun(folder):
+    """A folder with what a check of the crate as it stands has proved: what an earlier check kept, or else one that is made here and removed at the end."""
+    with ONE_BY_ONE:
+        own = BEGUN.setdefault(folder, [threading.Lock(), None])
+    with own[0]:
+        if not own[1] and (folder / "out/incremental").is_dir():
+            own[1] = folder / "out/incremental"
+        if not own[1]:
+            room = tempfile.mkdtemp(prefix="gromavelush-begun-")
+            atexit.register(shutil.rmtree, room, ignore_errors=True)
+            rattle_check(folder.name, folder, room, max(1, len(os.sched_getaffinity(0)) // 2))
+            own[1] = room
+    return own[1]
+
+
+def rattle_check(name, at, kept, jobs):
+    """What a check of the crate `name` says whose files stand in the folder `at`, over what `kept` holds."""
+    known = crates.listed()
+    root = "src/main.rt" if crates.is_program(name) else "src/lib.rt"
+    words = [str(crates.kit() / "bin/rattle"), "check", "--crate-name", name, root, *crates.words_over(known, known[name][1]), "--jobs", str(jobs)]
+    words += ["--links", f"{name}=", "--incremental", str(kept)] + ["--crate-type", "staticlib"] * crates.is_static(known, name)
+    return subprocess.run(words, cwd=at, stdin=subprocess.DEVNULL, stdout=subprocess.PIPE, stderr=subprocess.STDOUT, errors="replace").stdout
+
+
 def checked(folder, texts):
-    """All that a check of the crate says with these texts of its files. It begins with what an earlier check kept, if there is such."""
-    known, name = crates.listed(), folder.name
+    """All that a check of the crate says with these texts of its files."""
     with tempfile.TemporaryDirectory() as room:
-        to = pathlib.Path(room, name)
+        to = pathlib.Path(room, folder.name)
         for part in crates.PARTS:
             if (folder / part).is_dir():
                 shutil.copytree(folder / part, to / part)
         for file, text in texts.items():
             (to / file).write_text(text, encoding="utf-8", errors="surrogateescape")
-        kept = to / "kept"
-        if (folder / "out/incremental").is_dir():
-            shutil.copytree(folder / "out/incremental", kept, symlinks=True, copy_function=link_or_copy)
-        root = "src/main.rt" if crates.is_program(name) else "src/lib.rt"
-        words = [str(crates.kit() / "bin/rattle"), "check", "--crate-name", name, root, *crates.words_over(known, known[name][1]), "--jobs", "1"]
-        words += ["--links", f"{name}=", "--incremental", str(kept)] + ["--crate-type", "staticlib"] * crates.is_static(known, name)
-        return subprocess.run(words, cwd=to, stdin=subprocess.DEVNULL, stdout=subprocess.PIPE, stderr=subprocess.STDOUT, errors="replace").stdout
+        shutil.copytree(begun(folder), to / "kept", symlinks=True, copy_function=link_or_copy)
+        return rattle_check(folder.name, to, to / "kept", 1)

@@ -11,7 +11,7 @@
  *     mapped file that another writes or shortens;
  *   - a row of length 0 still has a pointer that is not null, and aligned;
  *   - a row has at most 2^63 - 1 bytes;
- *   - there are 16 KiB of stack left: bindings/c/stack.c measures at most 8,008 bytes on x86-64 (6,576 on Arm at landing 11),
+ *   - there are 16 KiB of stack left: bindings/c/stack.c measures at most 7,608 bytes on x86-64 (6,576 on Arm at landing 11),
  *     and the loader may want some at the first call of memcpy.
  * They are safe to call from several threads, and from a signal handler, on rows of their own. Numbers are the machine's own, 64-bit
  * Linux on x86-64 or Arm; a word's bytes are counted by value, not by address.
