@@ -1,14 +1,18 @@
--- Laws of what is told of a translation. Assumes nothing.
---     passed            a text that the reader reads
+-- Laws of what is told of a run and of a translation. Assumes nothing.
+--     end_told          the three numbers of an end, one by one
+--     slipped, passed   a text that the reader refuses, and one that it reads
 --     fits, short       a translation made in an array, handed to a row that has room for it, and to one that has not: that into as many slots
 use Prim.Native.Nat.{ℕ, ◌≤◌, ◌<◌}
-use mathlib.Core.Bool.{true}
-use mathlib.Core.Path.{◌≡◌, sym, ap, ◌∙◌}
-use mathlib.Core.List.{List}
+use mathlib.Core.Bool.{true, false}
+use mathlib.Core.Path.{◌≡◌, refl, sym, ap, ◌∙◌}
+use mathlib.Core.List.{List, ◌∷◌, ◌++◌}
 use borrow.Author.Tests.{le-ltb, lt-ltb}
-use lib.ListN.{length, take, drop, replicate, length-replicate}
+use lib.ListN.{length, get_or, take, drop, replicate, length-replicate}
 use lib.Seq.{take_at, length-take-le}
 use Rattle.step.specs.declared.forms.Step.{Step}
+use Rattle.step.specs.declared.runs.End.{End}
+use Rattle.step.specs.declared.runs.End.TheVariants.{Finished, Budget, Trapped, Refused}
+use Rattle.step.specs.Run.{end_numbers}
 use Rattle.recipes.specs.declared.types.Recipe.{Recipe}
 use Rattle.recipes.specs.declared.types.Refusal.TheVariants.{NoSpace}
 use Rattle.recipes.specs.declared.types.Reading.{Reading}
@@ -18,9 +22,20 @@ use Rattle.recipes.specs.Listing.{blank, blanks, translate_of}
 use Rattle.recipes.proofs.Settling.{blanks_hold, translate_lent}
 use Rattle.recipe_calls.specs.Calls.{row_left, translation_told, listed_in, translate_words}
 
+pub end_told : (e : End) (rest : List ℕ) → get_or (end_numbers e) 0 0 ∷ get_or (end_numbers e) 1 0 ∷ get_or (end_numbers e) 2 0 ∷ rest ≡ end_numbers e ++ rest
+end_told Finished rest = refl
+end_told Budget rest = refl
+end_told (Trapped trap place line) rest = refl
+end_told (Refused fault place line) rest = refl
+
 -- as many slots as a row has
 abbrev slots : List ℕ → List Step
 slots row = replicate (length row) blank
+
+pub slipped :
+    (text row : List ℕ) (r : Reading) → r ≡ read_of text → is_nothing r.refused ≡ false →
+    row_left row (translation_told r.refused 0) ≡ translate_words text row
+slipped text row r is some = rw (← is, some)
 
 pub passed :
     (text row : List ℕ) (r : Reading) → r ≡ read_of text → is_nothing r.refused ≡ true →

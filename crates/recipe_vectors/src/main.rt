@@ -92,7 +92,7 @@ fn words(slip: Slip) -> &'static str {
     }
 }
 
-fn report<R: Print>(rt: &R, recipe: u64, place: u32, slip: Slip) -> io::Result<()> {
+fn report<R: Print>(rt: &R, recipe: u64, place: u64, slip: Slip) -> io::Result<()> {
     let what = words(slip);
     println!(rt; "failed: recipe {recipe}, place {place}: {what}")
 }
@@ -104,7 +104,7 @@ fn counted<R: Print>(rt: &R, t: Tally, replayed: Replayed) -> io::Result<Tally> 
     let slip = replayed.slip;
     let mut failed = t.failed;
     if is_slip(slip) {
-        report(rt, recipes, replayed.place, slip)?;
+        report(rt, recipes, replayed.place as u64, slip)?;
         failed = failed.wrapping_add(1);
     }
     Ok(Tally {

@@ -1,6 +1,6 @@
 -- Demand 3 (docs/PROMISES.md lists the three): any accepted recipe, run whole or halted after any step and continued, ends with each number and X exactly as document 01's rule says, after
 -- add, sub and neg with the flags of the whole number, address registers untouched, steps by document 01's formula. First what is promised of runs of the
--- listing (proved in proofs/Demand: `demand_3`, `halted_behind`, `one_by_one`, `from_text`, `Each-step`, `each_box`), then what `run_recipe` and `run_text` answer. Assumes nothing.
+-- listing (proved in proofs/Demand: `demand_3`, `halted_behind`, `one_by_one`, `from_text`, `each_step`, `each_box`), then what `run_recipe` and `run_text` answer. Assumes nothing.
 use Rattle.std.specs.Prelude.{ℕ, ◌+◌, ◌*◌, ◌≤◌, ◌<◌, ◌≡◌, true, cond, List, ◌++◌, map, length, get_or, take}
 use Rattle.alu.specs.declared.types.Flags.{Flags}
 use Rattle.step.specs.declared.registers.State.{State}

@@ -113,7 +113,7 @@ reading_printed r = cond (is_nothing r.refused) (printed_of r.recipe) (refusal_t
 unfoldable pub answer_of : List ℕ → List ℕ
 answer_of text = reading_printed (read_of text)
 
--- the bytes that the program reads of a text, which are its text (`cut-Line`, `cut_reads` and `cut_slips` of proofs/Cut: how far they are answered as the
+-- the bytes that the program reads of a text, which are its text (`cut_line`, `cut_reads` and `cut_slips` of proofs/Cut: how far they are answered as the
 -- whole), and its room for an answer, our own number (`answer_short` of proofs/Room: none is longer)
 abbrev pub text_max : ℕ
 text_max = 1024

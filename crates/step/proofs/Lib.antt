@@ -13,3 +13,5 @@ mod Running
 mod Stepping
 pub mod Numbers
 pub mod Determined
+pub mod Walks
+pub mod Lending

@@ -2,7 +2,7 @@
 //
 // Every public function takes every input: none has a `requires`. Each has one `ensures`, an
 // equation that gives its whole answer and all that is lent to it, by a definition of specs/ (`fetch`,
-// `store` and `lesser` by the library's `get_or`, `set` and `min`). Nothing is assumed.
+// `store` and `lesser` by the library's `slice_index_or`, `slice_set` and `min`). Nothing is assumed.
 #![tactic(auto)]
 
 pub mod forms;

@@ -1,5 +1,6 @@
 -- Laws of texts: when two are the same, and how a byte parts one. Assumes nothing.
---     same_true, same_refl, same_pointwise    two are the same exactly where they are equal; std's `==` on slices says the same
+--     same_true, same_refl, same_by    two are the same exactly where they are equal
+--     same_pointwise                   std's `==` on slices says the same
 --     First                            an index tells how a byte parts a text: the part before it, and the rest as `&s[i + 1..]` gives it
 --     first_tells, first_by            the length of the part before does
 use Rattle.std.proofs.Common.{◌≡◌, ℕ, suc, ◌+◌, ◌-◌, ◌<◌, ◌≤◌, Bool, true, false, cond, ◌&&◌, eqb, List, [], ◌∷◌, length, take, drop, sym, refl, ap, ◌∙◌, ap₂, le_refl, le_of_suc-le-suc, not-suc-le-zero, add-one, arith, length-drop, length-take-le, take_all, eq-eqb, eqb-true, ne_eqb, get_or, nat_eq}
@@ -28,6 +29,15 @@ pub same_refl : (xs : List ℕ) → same_bytes xs xs ≡ true
 unfolding same_bytes
 same_refl [] = refl
 same_refl (x ∷ xs) = rw (eq-eqb x x refl) (same_refl xs)
+
+-- an answer that is true exactly where the two are equal
+pub same_by : (r : Bool) (xs ys : List ℕ) → (r ≡ true → xs ≡ ys) → (xs ≡ ys → r ≡ true) → r ≡ same_bytes xs ys
+same_by true xs ys f g = rw (← f refl) (sym (same_refl xs))
+same_by false xs ys f g = go (same_bytes xs ys) (same_true xs ys)
+  where
+    go : (t : Bool) → (t ≡ true → xs ≡ ys) → false ≡ t
+    go true k = g (k refl)
+    go false k = refl
 
 -- `==` of std compares them so
 pub same_pointwise : (xs ys : List ℕ) → pointwise nat_eq xs ys ≡ same_bytes xs ys
