@@ -5,7 +5,7 @@
 
 mod line;
 
-use input::{read_text, tell_failure};
+use input::{LINE_MAX, failure_line, read_text};
 use std::fs::File;
 use std::io;
 use std::io::Read;
@@ -73,7 +73,9 @@ fn replay(rt: &HostRuntime, path: &str) -> io::Result<()> {
             print_counts(rt, path, t)
         }
         Err(error) => {
-            tell_failure(&mut rt.stderr(), path.as_bytes(), error);
+            let mut line = [0u8; LINE_MAX];
+            let k = failure_line(&mut line, path.as_bytes(), error);
+            let _ = rt.stderr().write_all(&line[..k]);
             Ok(())
         }
     }

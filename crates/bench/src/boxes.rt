@@ -12,7 +12,7 @@ use crate::pen::{
 };
 use crate::table::{numbering, sizes};
 use crate::words::{Asked, OF_A_BOX, Taking, WORD_ROOM, is_taken, report, tell, unsaid, with_text};
-use input::{Input, read_text, tell_failure};
+use input::{Input, LINE_MAX, failure_line, read_text};
 use recipes::types::{Listing, Recipe};
 use std::env::Env;
 use std::fs::File;
@@ -350,7 +350,9 @@ fn open_and_read<R: Files>(files: &R, name: &[u8], file: &mut [u8]) -> Input
 
 fn report_failed<W: Write>(to: &mut W, name: &[u8], error: Error) {
     tell(to, b"bench: ");
-    tell_failure(to, name, error);
+    let mut line = [0u8; LINE_MAX];
+    let k = failure_line(&mut line, name, error);
+    tell(to, &line[..k]);
 }
 
 fn report_long<W: Write>(to: &mut W, name: &[u8]) {

@@ -16,7 +16,7 @@ mod slips;
 mod table;
 mod words;
 
-use input::{read_text, tell_failure};
+use input::{LINE_MAX, failure_line, read_text};
 use pen::within;
 use recipes::printer::print_refusal;
 use recipes::reader::read;
@@ -81,10 +81,12 @@ fn main(rt: HostRuntime) {
     if !words.understood {
         return;
     }
+    let mut line = [0u8; LINE_MAX];
     let mut text = [0u8; TEXT_MAX];
     let input = read_text(&mut rt.stdin(), &mut text);
     if let Some(error) = input.failed {
-        tell_failure(&mut told, b"bench: standard input", error);
+        let k = failure_line(&mut line, b"bench: standard input", error);
+        let _ = told.write_all(&line[..k]);
         return;
     }
     let n = input.n;
@@ -92,6 +94,7 @@ fn main(rt: HostRuntime) {
     let m = answer(&rt, &mut told, &mut out, words, &text[..n]);
     let m = within(m, &out);
     if let Err(error) = rt.stdout().write_all(&out[..m]) {
-        tell_failure(&mut told, b"bench: standard output", error);
+        let k = failure_line(&mut line, b"bench: standard output", error);
+        let _ = told.write_all(&line[..k]);
     }
 }

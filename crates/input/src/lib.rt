@@ -1,10 +1,11 @@
-// Standard input, and a file that is open, as the programs read them; and what they say where a read or a write failed.
+// Standard input, and a file that is open, as the programs read them; and the line that tells a read or a write that failed.
 #![tactic(auto)]
 
 ghost use Rattle.std.specs.Prelude.{◌≡◌, ◌≤◌, length};
 ghost use Rattle.io.specs.Counts.{IsPrefixLen};
 
 use std::io::{Error, Read, Write};
+use text::writers::{put_byte, put_bytes};
 
 // So many bytes were read; `failed` is the error where a read failed.
 #[derive(Clone, Copy)]
@@ -50,14 +51,19 @@ fn words_end(text: &[u8]) -> usize
     at
 }
 
-// Writes a line: what failed, as the caller names it, a colon and the error's words. Where that fails too, nothing more is said.
-pub fn tell_failure<W: Write>(to: &mut W, what: &[u8], error: Error) {
+// Room for what failed, which is at most a file's name of 1,024 bytes, and the error's words.
+pub const LINE_MAX: usize = 1_283;
+
+// The line that tells a failure: what failed, as the caller names it, a colon, the error's words and byte 10. The words no contract can say.
+pub fn failure_line(line: &mut [u8; LINE_MAX], what: &[u8], error: Error) -> usize
+    ensures { IsPrefixLen result line.new }
+{
     let mut room = [0u8; 256];
     let mut rest: &mut [u8] = &mut room;
     let _ = write!(rest, "{error}");
     let n = words_end(&room);
-    let _ = to.write_all(what);
-    let _ = to.write_all(b": ");
-    let _ = to.write_all(&room[..n]);
-    let _ = to.write_all(b"\n");
+    let named = put_bytes(line, 0, what);
+    let parted = put_bytes(line, named, b": ");
+    let told = put_bytes(line, parted, &room[..n]);
+    put_byte(line, told, b'\n')
 }
