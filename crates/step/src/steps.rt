@@ -27,7 +27,7 @@ use alu::integer_arith::{
 use alu::shift_rotate::{
     ShiftOp, exec_asl, exec_asr, exec_lsl, exec_lsr, exec_rol, exec_ror, exec_roxl, exec_roxr,
 };
-use alu::types::{Answer, Check, Flags, Size, accepted, figure};
+use alu::types::{Answer, Check, Flags, Size};
 
 // Why a step, or a run, is refused: document 01's numbers 1, 2, 3 and 10.
 #[derive(Clone, Copy)]
@@ -371,8 +371,8 @@ fn to_data(d: &mut [u32; 8], size: Size, t: D, old: u32, answer: Answer) -> Acte
 fn to_data_timed(d: &mut [u32; 8], size: Size, t: D, old: u32, answer: Answer, long: u32) -> Acted
     ensures { (d.new ≡ slice_set d.old t.0 (merged_of size old answer.result)) × (result ≡ said_of How.Done (refigured answer (figure size answer.clocks long))) }
 {
-    let clocks = figure(size, answer.clocks, long);
-    let timed = accepted(answer.result, answer.flags, clocks);
+    let clocks = size.figure(answer.clocks, long);
+    let timed = Answer::accepted(answer.result, answer.flags, clocks);
     to_data(d, size, t, old, timed)
 }
 
@@ -515,7 +515,7 @@ fn step_bit(d: &mut [u32; 8], flags: Flags, size: Size, op: BitOp, c: Count, t: 
                 let dst = read(d, t.0);
                 let answer = bit(op, size, number.value, dst, flags);
                 let clocks = figure_of_bit(op, number.value, answer.clocks);
-                let timed = accepted(answer.result, answer.flags, clocks);
+                let timed = Answer::accepted(answer.result, answer.flags, clocks);
                 to_data(d, size, t, dst, timed)
             } else {
                 refused(count_fault(c), flags)
