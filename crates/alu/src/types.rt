@@ -6,7 +6,7 @@ ghost use Rattle.alu.specs.ConditionCodes.{result_flags, flags_of, ccr_of};
 ghost use Rattle.alu.specs.Answers.{number_of, class_of, accepted, refused, figure};
 
 // The size of an operation: 8, 16 or 32 bits.
-#[derive(Clone, Copy)]
+#[derive(Clone, Copy, PartialEq, Eq)]
 pub enum Size {
     Byte,
     Word,
