@@ -9,7 +9,7 @@ ghost use Rattle.step.specs.Course.{came_out, is_done, course_of, stop_of, begin
 use super::forms::{Form, Step};
 use super::lent::{run, run_first};
 use super::registers::{D, State};
-use super::steps::{Came, Fault, Outcome, Trap, is_done, outcome_of, perform_on};
+use super::steps::{Came, Fault, Outcome, Trap, outcome_of, perform_on};
 use alu::types::{Flags, Size};
 
 // The slots of a listing that stands in an array.
@@ -141,7 +141,7 @@ pub(crate) fn advance(
     let acted = perform_on(d, a, on.flags, step.size, step.form);
     let came = acted.came;
     let clocks = on.clocks + u64::from(acted.clocks);
-    if is_done(came) {
+    if came == Came::Done {
         stands(next < stop, came, next, clocks, acted.flags)
     } else {
         stands(false, came, next, clocks, acted.flags)
@@ -152,7 +152,7 @@ pub(crate) fn advance(
 pub(crate) fn all_done(on: Course) -> bool
     ensures { result ≡ is_done (came_out on.came) }
 {
-    is_done(on.came)
+    on.came == Came::Done
 }
 
 // How a run ends, and where it would go on.
