@@ -7,7 +7,7 @@ ghost use Rattle.step.specs.Lent.{performed, held, ran_in};
 use super::forms::Step;
 use super::registers::State;
 use super::runs::{
-    Left, Ran, SLOTS, advance, all_done, begin, left_off, nowhere, ran_of, stop_at,
+    Left, Ran, SLOTS, advance, all_done, begin, left_off, nowhere, place_before, ran_of, stop_at,
 };
 use super::steps::{Outcome, perform};
 use alu::types::Flags;
@@ -52,7 +52,7 @@ pub fn run_in(
     let line = if all_done(on) {
         0
     } else {
-        fetch(listing, on.next.saturating_sub(1), nowhere()).line
+        fetch(listing, place_before(on.next), nowhere()).line
     };
     left_off(len, start, on, line)
 }

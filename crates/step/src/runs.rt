@@ -1,5 +1,5 @@
 // A run of a listing of steps with a budget.
-ghost use Rattle.std.specs.Prelude.{◌≡◌, take};
+ghost use Rattle.std.specs.Prelude.{◌≡◌, ◌-◌, take};
 ghost use Rattle.step.specs.Perform.{perform_of};
 ghost use Rattle.step.specs.declared.runs.End.TheVariants as End;
 ghost use Rattle.step.specs.Run.{ends, end_line, run_of, resumed_of};
@@ -140,7 +140,8 @@ pub(crate) fn advance(
     let next = on.next + 1;
     let acted = perform_on(d, a, on.flags, step.size, step.form);
     let came = acted.came;
-    let clocks = on.clocks + u64::from(acted.clocks);
+    let figure = u64::from(acted.clocks);
+    let clocks = on.clocks + figure;
     if came == Came::Done {
         stands(next < stop, came, next, clocks, acted.flags)
     } else {
@@ -173,12 +174,19 @@ fn end_at(len: usize, next: usize) -> End
     }
 }
 
+// The place before; 0 stays.
+pub(crate) fn place_before(next: usize) -> usize
+    ensures { result ≡ next - 1 }
+{
+    next.saturating_sub(1)
+}
+
 // Where a refused step stood, if `next` is the place behind it; a run that starts past the end has taken none.
 fn stood_at(fault: Fault, next: usize) -> usize
     ensures { result ≡ stood_at fault next }
 {
     match fault {
-        Fault::BadSmall | Fault::NoSuchSize | Fault::NoSuchRegister => next.saturating_sub(1),
+        Fault::BadSmall | Fault::NoSuchSize | Fault::NoSuchRegister => place_before(next),
         Fault::StartPastEnd => next,
     }
 }
@@ -194,7 +202,7 @@ fn halted_after(outcome: Outcome, len: usize, next: usize, line: u8) -> Halted
             next,
         },
         Outcome::Trapped(trap) => Halted {
-            end: End::Trapped(trap, next.saturating_sub(1), line),
+            end: End::Trapped(trap, place_before(next), line),
             next,
         },
         Outcome::Refused(fault) => {
