@@ -32,7 +32,8 @@ pub fn perform_in(state: &mut State, step: Step) -> Told
 }
 
 // A run on registers that are lent, and changed there: the one loop, which every other way of running calls. A trap's or a
-// refusal's line is read behind it; before a start past the end no step stands either, and the line is 0.
+// refusal's line is read behind it; before a start past the end no step stands either, and the line is 0. The two rows stay apart
+// (a `&mut State` for both, tried as steps.rt says: 61.7).
 pub fn run_in(
     listing: &[Step],
     d: &mut [u32; 8],

@@ -55,6 +55,7 @@ pub fn rack(
 ) -> Result<usize, TooManyBoxes>
     ensures { left result sets.new answers.new ≡ rack_of perform_of listing.now sets.old starts.now budget answers.old }
 {
+    // By index: what stands behind an `iter_mut` that is over, no proof knows.
     let boxes = plan(sets.len(), starts.len(), answers.len())?;
     for i in 0..boxes {
         let ran = run(listing, sets[i], starts[i], budget);

@@ -27,7 +27,7 @@ pub(crate) fn read(registers: &[u32], r: u8) -> u32
     registers.get(usize::from(r)).copied().unwrap_or(0)
 }
 
-// A register is written; nothing for a number past the end.
+// A register is written; nothing for a number past the end. By index, as `store` of lent.
 pub(crate) fn write(registers: &mut [u32], r: u8, value: u32)
     ensures { registers.new ≡ slice_set registers.old r value }
 {

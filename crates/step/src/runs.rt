@@ -9,7 +9,7 @@ ghost use Rattle.step.specs.Course.{came_out, is_done, course_of, stop_of, begin
 use super::forms::{Form, Step};
 use super::lent::{run, run_first};
 use super::registers::{D, State};
-use super::steps::{Came, Fault, Outcome, Trap, outcome_of, perform_on};
+use super::steps::{Came, Fault, Outcome, Trap, perform_on};
 use alu::types::{Flags, Size};
 
 // The slots of a listing that stands in an array.
@@ -68,7 +68,7 @@ pub(crate) struct Course {
     pub flags: Flags,
 }
 
-// Where a run stands. The flags go over one by one, as in alu::types::accepted.
+// Where a run stands. The flags go over one by one, as in `said` of steps.
 fn stands(going: bool, came: Came, next: usize, clocks: u64, flags: Flags) -> Course
     ensures { result ≡ course_of going came next clocks flags }
 {
@@ -126,7 +126,7 @@ pub(crate) fn begin(len: usize, start: usize, stop: usize, flags: Flags) -> Cour
 }
 
 // One step of a run that goes on. The next place is worked out before the step is taken, and is the same whatever comes of
-// it, so that the compiler has one place to keep.
+// it, so that the compiler has one place to keep. (One `stands`, over `&&`, tried as steps.rt says: 62.3)
 pub(crate) fn advance(
     d: &mut [u32; 8],
     a: &mut [u32; 8],
@@ -220,7 +220,7 @@ pub(crate) fn left_off(len: usize, start: usize, on: Course, line: u8) -> Left
     requires { Halts len start on line }
     ensures { result ≡ left_of len start on line }
 {
-    let halted = halted_after(outcome_of(on.came), len, on.next, line);
+    let halted = halted_after(Outcome::from(on.came), len, on.next, line);
     let taken = halted.next - start;
     Left {
         end: halted.end,
