@@ -77,13 +77,7 @@ fn stands(going: bool, came: Came, next: usize, clocks: u64, flags: Flags) -> Co
         came,
         next,
         clocks,
-        flags: Flags {
-            x: flags.x,
-            n: flags.n,
-            z: flags.z,
-            v: flags.v,
-            c: flags.c,
-        },
+        flags: Flags { ..flags },
     }
 }
 

@@ -28,7 +28,7 @@ use alu::integer_arith::{
 use alu::shift_rotate::{
     ShiftOp, exec_asl, exec_asr, exec_lsl, exec_lsr, exec_rol, exec_ror, exec_roxl, exec_roxr,
 };
-use alu::types::{Answer, Check, Flags, Size, accepted, figure};
+use alu::types::{Answer, Check, Flags, Size};
 
 // Why a step, or a run, is refused: document 01's numbers 1, 2, 3 and 10.
 #[derive(Clone, Copy)]
@@ -275,13 +275,7 @@ fn said(came: Came, answer: Answer) -> Acted
 {
     Acted {
         came,
-        flags: Flags {
-            x: answer.flags.x,
-            n: answer.flags.n,
-            z: answer.flags.z,
-            v: answer.flags.v,
-            c: answer.flags.c,
-        },
+        flags: Flags { ..answer.flags },
         clocks: answer.clocks,
     }
 }
@@ -292,13 +286,7 @@ fn refused(came: Came, flags: Flags) -> Acted
 {
     Acted {
         came,
-        flags: Flags {
-            x: flags.x,
-            n: flags.n,
-            z: flags.z,
-            v: flags.v,
-            c: flags.c,
-        },
+        flags: Flags { ..flags },
         clocks: 0,
     }
 }
@@ -315,9 +303,8 @@ fn to_data(d: &mut [u32; 8], size: Size, t: D, old: u32, answer: Answer) -> Acte
 fn to_data_timed(d: &mut [u32; 8], size: Size, t: D, old: u32, answer: Answer, long: u32) -> Acted
     ensures { (d.new ≡ slice_set d.old t.0 (merged_of size old answer.result)) × (result ≡ said_of How.Done (refigured answer (figure size answer.clocks long))) }
 {
-    let clocks = figure(size, answer.clocks, long);
-    let timed = accepted(answer.result, answer.flags, clocks);
-    to_data(d, size, t, old, timed)
+    let clocks = size.figure(answer.clocks, long);
+    to_data(d, size, t, old, Answer { clocks, ..answer })
 }
 
 // The result goes whole to a register.
@@ -459,8 +446,7 @@ fn step_bit(d: &mut [u32; 8], flags: Flags, size: Size, op: BitOp, c: Count, t: 
                 let dst = read(d, t.0);
                 let answer = bit(op, size, number, dst, flags);
                 let clocks = figure_of_bit(op, number, answer.clocks);
-                let timed = accepted(answer.result, answer.flags, clocks);
-                to_data(d, size, t, dst, timed)
+                to_data(d, size, t, dst, Answer { clocks, ..answer })
             } else {
                 refused(count_fault(c), flags)
             }
