@@ -1,9 +1,8 @@
 -- Texts as lists of bytes: how a byte parts a text, digits, and numbers in decimal and in hexadecimal, both ways. `cond test yes no` is a choice.
 -- Assumes nothing.
-use Rattle.std.specs.Prelude.{ℕ, zero, suc, ◌+◌, ◌-◌, ◌*◌, ◌/◌, ◌%◌, ◌^◌, Bool, true, false, cond, ◌&&◌, List, [], ◌∷◌, ◌++◌, length, ◌==◌, nat_lt, slice_index}
+use Rattle.std.specs.Prelude.{ℕ, zero, suc, ◌+◌, ◌-◌, ◌*◌, ◌/◌, ◌%◌, ◌^◌, Option, Some, None, Bool, true, false, cond, ◌&&◌, List, [], ◌∷◌, ◌++◌, length, ◌==◌, nat_lt, slice_index}
 use Prim.Native.Char.{code}
 use Prim.Native.String.{String, [] as none, ◌∷◌ as ◌then◌}
-use Rattle.text.specs.declared.types.Digit.{Digit}
 use Rattle.text.specs.declared.types.Decimal.{Decimal}
 use Rattle.text.specs.declared.types.Hex.{Hex}
 
@@ -36,23 +35,23 @@ parts b xs = before b xs ∷ after b xs
 -- ---- digits
 
 -- a byte as a decimal digit, 48 to 57
-abbrev pub byte_digit : ℕ → Digit
-byte_digit b = cond (nat_lt b 48) Digit.Bad (cond (nat_lt 57 b) Digit.Bad (Digit.Is (b - 48)))
+abbrev pub byte_digit : ℕ → Option ℕ
+byte_digit b = cond (nat_lt b 48) None (cond (nat_lt 57 b) None (Some (b - 48)))
 
 -- a byte as a hexadecimal digit: those, and A to F, 65 to 70
-unfoldable pub hex_digit : ℕ → Digit
-hex_digit b = cond (nat_lt b 65) (byte_digit b) (cond (nat_lt 70 b) Digit.Bad (Digit.Is (b - 55)))
+unfoldable pub hex_digit : ℕ → Option ℕ
+hex_digit b = cond (nat_lt b 65) (byte_digit b) (cond (nat_lt 70 b) None (Some (b - 55)))
 
 -- a field as one decimal digit
-unfoldable pub digit_of : List ℕ → Digit
-digit_of field = cond (length field == 1) (byte_digit (slice_index field 0)) Digit.Bad
+unfoldable pub digit_of : List ℕ → Option ℕ
+digit_of field = cond (length field == 1) (byte_digit (slice_index field 0)) None
 
 -- ---- the value of digits
 
 -- what a digit counts, and 0 for none
-abbrev pub counted : Digit → ℕ
-counted (Digit.Is d) = d
-counted Digit.Bad = 0
+abbrev pub counted : Option ℕ → ℕ
+counted (Some d) = d
+counted None = 0
 
 -- what a byte counts, in any base (A to F in decimal too: the field is then not the writing of its value)
 abbrev pub worth_of : ℕ → ℕ

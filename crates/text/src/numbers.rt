@@ -4,7 +4,7 @@ ghost use Rattle.std.specs.Prelude.{◌≡◌};
 ghost use Rattle.text.specs.Text.{byte_digit, hex_digit, digit_of, worth_of, decimal_read, hex_of, hex_read};
 
 use super::parts::same;
-use super::types::{Decimal, Digit, Hex};
+use super::types::{Decimal, Hex};
 
 // Only a value below these can stay below 2^64, or 2^32, with one digit more; what it comes to may still wrap.
 const DECIMAL_PART: u64 = 1_844_674_407_370_955_162;
@@ -12,39 +12,39 @@ const DECIMAL_PART: u64 = 1_844_674_407_370_955_162;
 const HEX_PART: u32 = 0x1000_0000;
 
 // A byte as a decimal digit.
-pub fn digit(b: u8) -> Digit
+pub fn digit(b: u8) -> Option<u8>
     ensures { result ≡ byte_digit b }
 {
     if b < b'0' {
-        return Digit::Bad;
+        return None;
     }
     if b'9' < b {
-        return Digit::Bad;
+        return None;
     }
-    Digit::Is(b - b'0')
+    Some(b - b'0')
 }
 
 // A byte as a hexadecimal digit, 0 to 9 or A to F.
 #[tactic(auto, unfolding(crate::specs::Text::hex_digit))]
-pub fn hex_digit(b: u8) -> Digit
+pub fn hex_digit(b: u8) -> Option<u8>
     ensures { result ≡ hex_digit b }
 {
     if b < b'A' {
         return digit(b);
     }
     if b'F' < b {
-        return Digit::Bad;
+        return None;
     }
-    Digit::Is(b - 55)
+    Some(b - 55)
 }
 
 // A field that is one decimal digit.
 #[tactic(auto, unfolding(crate::specs::Text::digit_of))]
-pub fn digit_of(field: &[u8]) -> Digit
+pub fn digit_of(field: &[u8]) -> Option<u8>
     ensures { result ≡ digit_of field.now }
 {
     if field.len() != 1 {
-        return Digit::Bad;
+        return None;
     }
     digit(field[0])
 }
@@ -54,8 +54,8 @@ pub fn worth(b: u8) -> u8
     ensures { result ≡ worth_of b }
 {
     match hex_digit(b) {
-        Digit::Is(d) => d,
-        Digit::Bad => 0,
+        Some(d) => d,
+        None => 0,
     }
 }
 

@@ -6,12 +6,6 @@ pub const NEWLINE: u8 = 10;
 pub const BLANK: u8 = 32;
 
 #[derive(Clone, Copy)]
-pub enum Digit {
-    Is(u8),
-    Bad,
-}
-
-#[derive(Clone, Copy)]
 pub enum Decimal {
     Is(u64),
     Bad,
