@@ -31,12 +31,12 @@ pub fn run_recipe(recipe: Recipe, state: State) -> Result<RecipeRun, Refused>
 {
     let made = translate_array(recipe)?;
     let ran = run_array(made.steps, made.count, state, 0, STEPS_MAX);
-    let after = ran.state;
+    let State { d, a, flags } = ran.state;
     Ok(RecipeRun {
-        d: after.d,
-        a: after.a,
-        x: after.flags.x,
-        codes: codes_after(recipe.lines(), after.flags),
+        d,
+        a,
+        x: flags.x,
+        codes: codes_after(recipe.lines(), flags),
         steps: ran.steps,
         clocks: ran.clocks,
     })

@@ -1,7 +1,7 @@
 // From a recipe to its listing, and what the listing's steps cost. A number's registers go lowest first, those of halve and
 // down highest first. In a contract `long` and `blank` are the definitions of specs/ that the functions of that name are held
 // to.
-ghost use Rattle.std.specs.Prelude.{◌≡◌, ◌/◌, ◌%◌, ◌*◌, ◌<◌, ◌≤◌, ◌^◌, get_or, take};
+ghost use Rattle.std.specs.Prelude.{◌≡◌, ◌/◌, ◌%◌, ◌*◌, ◌<◌, ◌≤◌, ◌^◌, get_or, length, take};
 ghost use Rattle.recipes.specs.Recipe.{lines_max, unused};
 ghost use Rattle.step.specs.Lent.{over};
 ghost use Rattle.recipes.specs.Listing.{long, form_of, step_of, blank, blanks, numbered_of, array_of, at_rest, figure_of, clocks_of};
