@@ -39,21 +39,19 @@ few_steps r w c =
 slots_enough : steps_max ≤ array_slots
 slots_enough = omega arith
 
--- what is told of a recipe that is judged to take so many steps
+-- what was judged is ready to be laid out
 abbrev Ready : Recipe → Result ℕ Refused → Type 0
-Ready r (Ok count) = Layable r.width r.lines count
+Ready r (Ok count) = Layable r.width (recipe_lines r)
 Ready r (Err k) = Unit {0}
 
-judged_ready : (r : Recipe) → length r.lines ≡ lines_max → Ready r (judge_of r)
-judged_ready r n =
+judged_ready : (r : Recipe) → Ready r (judge_of r)
+judged_ready r =
     tests_agree (λ (t _ : Result ℕ Refused). Ready r t) Err Err (λ k. tt) r (Ok (steps_of r.width (recipe_lines r)))
-    (Ok (steps_of r.width (recipe_lines r))) (λ g. whole (width_is r.width g.width) g.few g.lines)
-  where
-    whole : (0 < r.width) × (r.width ≤ 4) → r.count ≤ lines_max → Accepted r.width (recipe_lines r) → Layable r.width r.lines (steps_of r.width (recipe_lines r))
-    whole w c a = record { many = r.count; within = omega (arith, few_steps r w.1 c, slots_enough); width = λ h. w; named = λ h. a; counted = omega arith; held = omega arith }
+    (Ok (steps_of r.width (recipe_lines r)))
+    (λ g. record { small = (width_is r.width g.width).1; named = g.lines; few = let some = length-take r.count r.lines in let few = g.few in omega arith })
 
-pub ready : (r : Recipe) (count : ℕ) → length r.lines ≡ lines_max → judge_of r ≡ Ok count → Layable r.width r.lines count
-ready r count n e = subst (Ready r) e (judged_ready r n)
+pub ready : (r : Recipe) (count : ℕ) → judge_of r ≡ Ok count → Layable r.width (recipe_lines r)
+ready r count e = subst (Ready r) e (judged_ready r)
 
 -- the translation that stands where all tests are passed
 abbrev pub whole : (w : ℕ) (ls : List Line) (slots : List Step) → Translated
@@ -71,20 +69,16 @@ blanks_fit r w c = rw length-replicate (omega (arith, few_steps r w c, slots_eno
 
 -- what was judged, laid out in an array
 abbrev laid_by : Recipe → Result ℕ Refused → Result Listing Refused
-laid_by r (Ok count) = Ok (listed count (over (take count (numbered_of r.width 2 r.lines)) blanks))
+laid_by r (Ok count) = Ok (listed count (over (numbered_of r.width 2 (recipe_lines r)) blanks))
 laid_by r (Err k) = Err k
 
 laid_all : (r : Recipe) → laid_by r (judge_of r) ≡ array_of r
 unfolding translate_of
 laid_all r =
     tests_agree (λ (t : Result ℕ Refused) (l : Translated). laid_by r t ≡ listing_in l) Err (λ k. translated (Err k) blanks) (λ k. refl) r (Ok (steps_of r.width (recipe_lines r)))
-    (whole r.width (recipe_lines r) blanks) (λ g. there (width_is r.width g.width) g.few)
-  where
-    there : (0 < r.width) × (r.width ≤ 4) → r.count ≤ lines_max → laid_by r (Ok (steps_of r.width (recipe_lines r))) ≡ listing_in (whole r.width (recipe_lines r) blanks)
-    there w c =
-        rw (whole_fits r.width (recipe_lines r) blanks (blanks_fit r w.1 c), numbered_prefix r.width 2 r.count r.lines)
+    (whole r.width (recipe_lines r) blanks) (λ g. rw (whole_fits r.width (recipe_lines r) blanks (blanks_fit r (width_is r.width g.width).1 g.few)))
 
-pub laid : (r : Recipe) (count : ℕ) → judge_of r ≡ Ok count → Ok (listed count (over (take count (numbered_of r.width 2 r.lines)) blanks)) ≡ array_of r
+pub laid : (r : Recipe) (count : ℕ) → judge_of r ≡ Ok count → Ok (listed count (over (numbered_of r.width 2 (recipe_lines r)) blanks)) ≡ array_of r
 laid r count e = ap (laid_by r) (sym e) ∙ laid_all r
 
 pub unlaid : (r : Recipe) (k : Refused) → judge_of r ≡ Err k → Err k ≡ array_of r

@@ -1,10 +1,9 @@
 -- Terms of private functions' contracts: an operand's field, the translator's parts, and what a run tells of the flags. No contract of a
 -- public function names anything of this page, and a reader can leave it out. Assumes nothing.
-use Rattle.std.specs.Prelude.{Bool, cond, ◌&&◌, Option, Some, None, Result, Ok, Err, List, [], ◌∷◌, ℕ, ◌+◌, ◌-◌, ◌*◌, ◌/◌, ◌%◌, ◌≤◌, ◌<◌, eqb, ltb, length, take}
+use Rattle.std.specs.Prelude.{Bool, cond, ◌&&◌, Option, Some, None, Result, Ok, Err, List, [], ◌∷◌, ℕ, ◌+◌, ◌-◌, ◌*◌, ◌/◌, ◌%◌, ◌≤◌, ◌<◌, ◌≡◌, eqb, length}
 use Rattle.alu.specs.declared.types.Flags.{Flags}
 use Rattle.step.specs.declared.forms.Step.{Step}
 use Rattle.step.specs.declared.forms.OneOp.TheVariants.{Clr}
-use Rattle.step.specs.Run.{array_slots}
 use Rattle.recipes.specs.declared.types.Verb.{Verb}
 use Rattle.recipes.specs.declared.types.Line.{Line}
 use Rattle.recipes.specs.declared.types.Recipe.{Recipe}
@@ -16,8 +15,8 @@ use Rattle.recipes.specs.declared.translator.Job.{Job}
 use Rattle.recipes.specs.declared.printer.Operand.{Operand}
 use Rattle.recipes.specs.declared.printer.Operand.TheVariants.{Numbered, Absent}
 use Rattle.text.specs.Text.{ascii, decimal_of}
-use Rattle.recipes.specs.Recipe.{way_of, target, recipe_lines, Accepted}
-use Rattle.recipes.specs.Listing.{step_of, steps_of, lines_pass, tested}
+use Rattle.recipes.specs.Recipe.{lines_max, way_of, target, recipe_lines, Names, Accepted}
+use Rattle.recipes.specs.Listing.{step_of, steps_at, steps_of, lines_pass, tested}
 
 -- ---- printing
 
@@ -41,7 +40,7 @@ offset_of way w i = cond way.falls (w - 1 - i) i
 
 -- what the steps of a line have in common
 abbrev pub job_of : (w : ℕ) → Line → Job
-job_of w l = record { way = way_of l.verb; from = l.a * w; to = target l * w; steps = steps_by (way_of l.verb) * w }
+job_of w l = record { way = way_of l.verb; from = l.a * w; to = target l * w }
 
 -- step j
 abbrev pub job_step : (w : ℕ) → Job → (j : ℕ) → Step
@@ -63,14 +62,17 @@ judge_lines w ls = lines_pass Err (8 / w) 2 ls (Ok (steps_of w ls))
 abbrev pub judge_of : Recipe → Result ℕ Refused
 judge_of r = tested Err r (Ok (steps_of r.width (recipe_lines r)))
 
--- the first `count` steps of the lines can be laid out
-pub record Layable (w : ℕ) (lines : List Line) (count : ℕ) : Type 0 where
-  pub many : ℕ
-  pub within : count ≤ array_slots
-  pub width : 0 < count → (0 < w) × (w ≤ 4)
-  pub named : 0 < count → Accepted w (take many lines)
-  pub counted : count ≤ steps_of w (take many lines)
-  pub held : many ≤ length lines
+-- a line that can be laid out, into as many slots as it has steps
+pub record Slotted (w : ℕ) (l : Line) (slots : ℕ) : Type 0 where
+  pub small : w ≤ 4
+  pub named : Names (8 / w) l
+  pub all : slots ≡ steps_at l.verb * w
+
+-- lines that can be laid out
+pub record Layable (w : ℕ) (ls : List Line) : Type 0 where
+  pub small : w ≤ 4
+  pub named : Accepted w ls
+  pub few : length ls ≤ lines_max
 
 -- ---- what a run tells of the flags
 

@@ -1,13 +1,14 @@
 // From a recipe to its listing, and what the listing's steps cost. A number's registers go lowest first, those of halve and
 // down highest first. In a contract `long` and `blank` are the definitions of specs/ that the functions of that name are held
 // to.
-ghost use Rattle.std.specs.Prelude.{◌≡◌, ◌/◌, ◌%◌, ◌*◌, ◌<◌, ◌≤◌, ◌^◌, get_or, length, take};
-ghost use Rattle.recipes.specs.Recipe.{lines_max, unused};
+ghost use Rattle.std.specs.Prelude.{◌≡◌, ◌/◌, ◌%◌, ◌*◌, ◌<◌, ◌≤◌, ◌^◌, length, map, take};
+ghost use Rattle.recipes.specs.Recipe.{lines_max};
 ghost use Rattle.step.specs.Lent.{over};
-ghost use Rattle.recipes.specs.Listing.{long, form_of, step_of, blank, blanks, numbered_of, array_of, at_rest, figure_of, clocks_of};
-ghost use Rattle.recipes.specs.Making.{act_at, offset_of, steps_by, job_of, job_step, StepOfJob, judge_of, judge_lines, Layable};
+ghost use Rattle.step.specs.Lines.{with_line};
+ghost use Rattle.recipes.specs.Listing.{long, form_of, step_of, blank, blanks, line_steps, numbered_of, array_of, at_rest, figure_of, clocks_of};
+ghost use Rattle.recipes.specs.Making.{act_at, offset_of, steps_by, job_of, job_step, StepOfJob, judge_of, judge_lines, Slotted, Layable};
 
-use super::lines::{Act, Way, check_line, goal, is_width, unused, way_of};
+use super::lines::{Act, Way, check_line, goal, is_width, way_of};
 use super::types::{LINES_MAX, Line, Listing, Recipe, Refusal, Refused, at_line};
 use alu::types::{Flags, Size};
 use step::forms::{Count, Form, OneOp, Step, with_line};
@@ -15,16 +16,15 @@ use step::registers::{D, State};
 use step::runs::SLOTS;
 use step::steps::perform;
 
-// What the steps of a line have in common: its way, the lowest registers of its numbers, and how many steps there are.
+// What the steps of a line have in common: its way, and the lowest registers of its numbers.
 #[derive(Clone, Copy)]
 pub(crate) struct Job {
     pub way: Way,
     pub from: usize,
     pub to: usize,
-    pub steps: usize,
 }
 
-// Every step of a listing is made here, and gets its text line in `lay`.
+// Every step of a listing is made here, and gets its text line in `lay_line`.
 fn long(form: Form) -> Step
     ensures { result ≡ long form }
 {
@@ -105,7 +105,6 @@ fn job_of(width: u8, line: Line) -> Job
         way,
         from: line.a as usize * width as usize,
         to: goal(way, line) as usize * width as usize,
-        steps: steps_of(width, way),
     }
 }
 
@@ -150,31 +149,28 @@ fn judge(recipe: Recipe) -> Result<usize, Refused>
     judge_lines(recipe.width, recipe.lines())
 }
 
-// Line k, from 0; past the last, `clear 0`.
-fn line_at(lines: [Line; LINES_MAX], k: usize) -> Line
-    ensures { result ≡ get_or lines k unused }
+// The steps of a line, each with the text line, in as many slots.
+fn lay_line(width: u8, line: Line, text_line: u8, slots: &mut [Step])
+    requires { Slotted width line (length slots.old) }
+    ensures { slots.new ≡ map (with_line text_line) (line_steps width line) }
 {
-    if k < LINES_MAX { lines[k] } else { unused() }
+    let job = job_of(width, line);
+    for (j, slot) in slots.iter_mut().enumerate() {
+        *slot = with_line(line_step(width, job, j), text_line);
+    }
 }
 
-// The first `total` steps of the lines, and blank slots behind them. Line k, from 0, is text line k + 2.
-fn lay(width: u8, lines: [Line; LINES_MAX], total: usize) -> [Step; SLOTS]
-    requires { Layable width lines total }
-    ensures { result ≡ over (take total (numbered_of width 2 lines)) blanks }
+// The steps of the lines, and blank slots behind them. Line k, from 0, is text line k + 2.
+fn lay(width: u8, lines: &[Line]) -> [Step; SLOTS]
+    requires { Layable width lines.now }
+    ensures { result ≡ over (numbered_of width 2 lines.now) blanks }
 {
     let mut steps = [blank(); SLOTS];
-    let mut job = job_of(width, line_at(lines, 0));
-    let mut k: usize = 0;
-    let mut j: usize = 0;
-    for at in 0..total {
-        let line = k as u8 + 2;
-        steps[at] = with_line(line_step(width, job, j), line);
-        j += 1;
-        if j == job.steps {
-            j = 0;
-            k += 1;
-            job = job_of(width, line_at(lines, k));
-        }
+    let mut at = 0;
+    for (k, line) in lines.iter().enumerate() {
+        let end = at + steps_of(width, way_of(line.verb));
+        lay_line(width, *line, k as u8 + 2, &mut steps[at..end]);
+        at = end;
     }
     steps
 }
@@ -186,7 +182,7 @@ pub fn translate_array(recipe: Recipe) -> Result<Listing, Refused>
     let count = judge(recipe)?;
     Ok(Listing {
         count,
-        steps: lay(recipe.width, recipe.lines, count),
+        steps: lay(recipe.width, recipe.lines()),
     })
 }
 

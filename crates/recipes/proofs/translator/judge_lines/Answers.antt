@@ -13,7 +13,7 @@ returns-in-Err c = rw c.at_line.ensures (passed_slip _ _ _ _ c.loop-k.invariant 
 pub loop-k-preserved : goal.loop-k-preserved
 loop-k-preserved c =
     let small = c.requires.1.0 in
-    passed_more _ _ _ _ c.loop-k.invariant _ _ c.loop-k-test.true ?
+    passed_more _ _ _ _ c.loop-k.invariant _ _ c.loop-k-test.true (sym c.check_line.ensures ∙ c.in_default.is)
     (rw c.way_of.ensures at c.steps_of-steps.ensures.0) (omega (arith, c.steps_of-steps.ensures.1, small))
 
 pub returns : goal.returns
