@@ -103,6 +103,9 @@ line_wide row = go (same_bytes (before 9 row) (ascii "width")) (only_digit (afte
     go true (Some d) = by d (is_width d) refl
     go false d = tt
 
+pub line_width : (row : List ℕ) (w : ℕ) → width_line row ≡ Some w → is_width w ≡ true
+line_width row w e = subst Wide e (line_wide row)
+
 first_sound : (row : List ℕ) (more : List (List ℕ)) → Sound (from_first row more)
 first_sound row [] = tt
 first_sound row (next ∷ more) = go (width_line row) (line_wide row)

@@ -30,6 +30,7 @@ use Rattle.recipes.specs.Recipe.{lines_max, number_of, at_column, takes_two}
 use Rattle.recipes.specs.Reader.{refused_at, verb_of, past, only_digit, with_two, one_field, two_fields, fields_of, then_checked, line_of, or_slip, lines_of, width_line, with_width, from_first, read_of}
 use Rattle.recipes.specs.Printer.{text_max, reading_printed, answer_of}
 use Rattle.recipes.proofs.Accepting.{cond_same}
+use Rattle.recipes.proofs.Words.{differs, long_word}
 use Rattle.recipes.proofs.Columns.{behind, parts_size, Slips, line_slips, number_in, line_in}
 use Rattle.recipes.proofs.LineByLine.{lines_cut, lines_next}
 
@@ -67,20 +68,6 @@ parts_on (x ∷ p) s = go (eqb x 10) (parts_on p s)
     go false h = (ap (λ (l : List ℕ). x ∷ l) h.0 ∙ front_cons x (before 10 p) (after 10 p) s, h.1)
 
 -- ---- a row of 10 bytes or more is no line
-
-differs : (xs ys : List ℕ) → length ys < length xs → same_bytes xs ys ≡ false
-unfolding same_bytes
-differs [] ys h = absurd (not-suc-le-zero h)
-differs (x ∷ xs) [] h = refl
-differs (x ∷ xs) (y ∷ ys) h = rw (differs xs ys (le_of_suc-le-suc h)) (and-false (eqb x y))
-
-long_word : (word : List ℕ) → 6 ≤ length word → verb_of word ≡ None
-unfolding verb_of
-long_word word h =
-    let four : 5 ≤ length word = omega arith in
-    let three : 4 ≤ length word = omega arith in
-    let two : 3 ≤ length word = omega arith in
-    simp differs
 
 long_digit : (field : List ℕ) → 2 ≤ length field → digit_of field ≡ None
 unfolding digit_of

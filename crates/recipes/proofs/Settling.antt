@@ -13,7 +13,7 @@ use borrow.Author.Tests.{le-leb, lt-leb, le-ltb, lt-ltb, ltb-false}
 use native.Mathlib.Decide.{dec_le}
 use lib.Dec.{leb, ltb}
 use lib.ListN.{length, take, drop, length-append, length-take, length-replicate}
-use lib.Seq.{take_at}
+use lib.Seq.{take_at, length-take-le}
 use Rattle.std.specs.Prelude.{Result, Ok, Err}
 use Rattle.step.specs.declared.forms.Step.{Step}
 use Rattle.step.specs.Run.{array_slots}
@@ -84,6 +84,33 @@ laid r count e = ap (laid_by r) (sym e) ∙ laid_all r
 pub unlaid : (r : Recipe) (k : Refused) → judge_of r ≡ Err k → Err k ≡ array_of r
 unlaid r k e = ap (laid_by r) (sym e) ∙ laid_all r
 
+-- a listing that was made in an array has its steps there, and no more than `steps_max`
+pub record Fills (l : Listing) : Type 0 where
+  pub few : l.count ≤ steps_max
+  pub held : l.count ≤ length l.steps
+
+abbrev Filled : Result Listing Refused → Type 0
+Filled (Ok l) = Fills l
+Filled (Err k) = Unit {0}
+
+filled : (r : Recipe) → Filled (array_of r)
+unfolding translate_of
+filled r =
+    tests_agree (λ (t _ : Translated). Filled (listing_in t)) (λ k. translated (Err k) blanks) (λ k. translated (Err k) blanks) (λ k. tt) r
+    (whole r.width (recipe_lines r) blanks) (whole r.width (recipe_lines r) blanks) (λ g. there (width_is r.width g.width) g.few)
+  where
+    there : (0 < r.width) × (r.width ≤ 4) → r.count ≤ lines_max → Filled (listing_in (whole r.width (recipe_lines r) blanks))
+    there w c =
+        let all = numbered_steps r.width 2 (recipe_lines r) in
+        rw (whole_fits r.width (recipe_lines r) blanks (blanks_fit r w.1 c))
+        (record { few = few_steps r w.1 c; held = rw length-append (omega arith) })
+
+pub blanks_count : (r : Recipe) (l : Listing) → array_of r ≡ Ok l → l.count ≤ steps_max
+blanks_count r l e = (subst Filled e (filled r)).few
+
+pub blanks_hold : (r : Recipe) (l : Listing) → array_of r ≡ Ok l → l.count ≤ length l.steps
+blanks_hold r l e = (subst Filled e (filled r)).held
+
 -- what the lent translator tells, and its slots, from a listing that was made in an array
 abbrev pub settled : Listing → List Step → Translated
 settled l slots =
@@ -114,29 +141,20 @@ translate_lent r slots =
     there : (0 < r.width) × (r.width ≤ 4) → r.count ≤ lines_max → copied (listing_in (whole r.width (recipe_lines r) blanks)) slots ≡ whole r.width (recipe_lines r) slots
     there w c = rw (whole_fits r.width (recipe_lines r) blanks (blanks_fit r w.1 c)) (room (dec_le (steps_of r.width (recipe_lines r)) (length slots)))
 
--- a listing that was made in an array has its steps there, and no more than `steps_max`
-pub record Fills (l : Listing) : Type 0 where
-  pub few : l.count ≤ steps_max
-  pub held : l.count ≤ length l.steps
+-- the same by cases, in the words of the code: a refusal, no room, and a copy
+pub lent_refused : (r : Recipe) (slots : List Step) (k : Refused) → array_of r ≡ Err k → translated (Err k) slots ≡ translate_of r slots
+lent_refused r slots k e = ap (λ (l : Result Listing Refused). copied l slots) (sym e) ∙ translate_lent r slots
 
-abbrev Filled : Result Listing Refused → Type 0
-Filled (Ok l) = Fills l
-Filled (Err k) = Unit {0}
+module _ (r : Recipe) (slots : List Step) (l : Listing) (e : array_of r ≡ Ok l) where
+  settled_lent : settled l slots ≡ translate_of r slots
+  settled_lent = ap (λ (l : Result Listing Refused). copied l slots) (sym e) ∙ translate_lent r slots
 
-filled : (r : Recipe) → Filled (array_of r)
-unfolding translate_of
-filled r =
-    tests_agree (λ (t _ : Translated). Filled (listing_in t)) (λ k. translated (Err k) blanks) (λ k. translated (Err k) blanks) (λ k. tt) r
-    (whole r.width (recipe_lines r) blanks) (whole r.width (recipe_lines r) blanks) (λ g. there (width_is r.width g.width) g.few)
-  where
-    there : (0 < r.width) × (r.width ≤ 4) → r.count ≤ lines_max → Filled (listing_in (whole r.width (recipe_lines r) blanks))
-    there w c =
-        let all = numbered_steps r.width 2 (recipe_lines r) in
-        rw (whole_fits r.width (recipe_lines r) blanks (blanks_fit r w.1 c))
-        (record { few = few_steps r w.1 c; held = rw length-append (omega arith) })
+  many : length (take l.count l.steps) ≡ l.count
+  many = length-take-le l.count l.steps (blanks_hold r l e)
 
-pub blanks_count : (r : Recipe) (l : Listing) → array_of r ≡ Ok l → l.count ≤ steps_max
-blanks_count r l e = (subst Filled e (filled r)).few
+  pub lent_short : length slots < length (take l.count l.steps) → translated (Err (at_line NoSpace 0)) slots ≡ translate_of r slots
+  lent_short h = let n = many in rw (← settled_lent, lt-ltb (length slots) l.count (omega arith))
 
-pub blanks_hold : (r : Recipe) (l : Listing) → array_of r ≡ Ok l → l.count ≤ length l.steps
-blanks_hold r l e = (subst Filled e (filled r)).held
+  pub lent_copied : length (take l.count l.steps) ≤ length slots
+      → translated (Ok (length (take l.count l.steps))) (take l.count l.steps ++ drop (length (take l.count l.steps)) slots) ≡ translate_of r slots
+  lent_copied h = let n = many in rw (← settled_lent, le-ltb (length slots) l.count (omega arith), many)

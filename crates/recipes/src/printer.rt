@@ -180,7 +180,7 @@ pub fn print_refusal(refused: Refused, out: &mut [u8]) -> usize
     ensures { written out.new result ≡ writing out.old 0 (refusal_text refused) }
 {
     let n = u8::from(refused.refusal);
-    let next = put_head(out, b"refused", u64::from(n), refused.line as u64);
+    let next = put_head(out, b"refused", n as u64, refused.line as u64);
     let next = put_number(out, next, TAB, refused.column as u64);
     put_byte(out, next, NEWLINE)
 }

@@ -35,6 +35,7 @@ impl From<Refusal> for Slip {
 }
 
 // The verb that a field names.
+#[tactic(auto, using(crate::proofs::Words::by_length), unfolding(crate::specs::Reader::verb_of, text::specs::Text::same_bytes))]
 fn verb_of(field: &[u8]) -> Option<Verb>
     ensures { result ≡ verb_of field.now }
 {

@@ -207,7 +207,8 @@ fn at_rest() -> State
 fn figure(step: Step) -> u64
     ensures { (result ≡ figure_of step) × (result < 2 ^ 32) }
 {
-    u64::from(perform(at_rest(), step).clocks)
+    let performed = perform(at_rest(), step);
+    performed.clocks as u64
 }
 
 pub(crate) fn clocks(steps: [Step; SLOTS], count: usize) -> u64
