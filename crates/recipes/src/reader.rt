@@ -7,7 +7,7 @@ ghost use Rattle.recipes.specs.Reader.{slip, verb_of, past, only_digit, one_fiel
 use super::lines::{check_line, is_width, unused, way_of};
 use super::types::{LINES_MAX, Line, Recipe, Refusal, Refused, Verb, at_column, at_line};
 use text::numbers::digit_of;
-use text::parts::{first, same};
+use text::parts::first;
 use text::types::{NEWLINE, TAB};
 
 // Why a text line is no recipe line, with the column; the line's number is added by `read_lines`.
@@ -140,7 +140,8 @@ fn read_width(row: &[u8]) -> Option<u8>
     ensures { result ≡ width_line row.now }
 {
     let tab = first(row, TAB);
-    if !same(&row[..tab], b"width") {
+    let named = &row[..tab] == b"width".as_slice();
+    if !named {
         return None;
     }
     if row.len() <= tab {
