@@ -18,7 +18,7 @@ ghost use Rattle.recipe_calls.specs.Words.{first_of};
 ghost use Rattle.recipe_calls.specs.Calls.{row_left, state_left, rack_left, translation_told, translate_words, ran_told, run_words, rack_words, promised_of, ccr_after, recipe_run_words};
 ghost use Rattle.recipe_calls.specs.Boxes.{box_state, BoxPut};
 
-use alu::types::{ccr, flags_of};
+use alu::types::Flags;
 use recipes::printer::print;
 use recipes::reader::read;
 use recipes::runner::{answer, run_text};
@@ -118,7 +118,7 @@ pub fn listing_run(
     let before = State {
         d: before_d,
         a: before_a,
-        flags: flags_of(*flags),
+        flags: Flags::from(*flags),
     };
     let ran = run_array(steps_of(listing), listing.len(), before, start, budget);
     let after = ran.state;
@@ -127,7 +127,7 @@ pub fn listing_run(
     let after_flags = after.flags;
     *d = after_d;
     *a = after_a;
-    *flags = ccr(after_flags);
+    *flags = u8::from(after_flags);
     *told = ran_told(ran);
 }
 
@@ -150,7 +150,7 @@ fn run_box(
     let before = State {
         d: before_d,
         a: before_a,
-        flags: flags_of(flags[i]),
+        flags: Flags::from(flags[i]),
     };
     let ran = run_array(steps, count, before, start, budget);
     let after = ran.state;
@@ -159,7 +159,7 @@ fn run_box(
     let after_flags = after.flags;
     put_eight(d, i, after_d);
     put_eight(a, i, after_a);
-    flags[i] = ccr(after_flags);
+    flags[i] = u8::from(after_flags);
     ran
 }
 
@@ -222,7 +222,7 @@ fn ccr_after(x: bool, codes: Codes) -> u8
 {
     match codes {
         Codes::Open => { if x { 16 } else { 0 } }
-        Codes::Known(flags) => ccr(flags),
+        Codes::Known(flags) => u8::from(flags),
     }
 }
 
@@ -242,7 +242,7 @@ pub fn recipe_run(
     let before = State {
         d: before_d,
         a: before_a,
-        flags: flags_of(*flags),
+        flags: Flags::from(*flags),
     };
     let ran = run_text(text, before);
     let after_d = ran.d;

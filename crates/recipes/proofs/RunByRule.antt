@@ -1,11 +1,11 @@
 -- What the functions that run a recipe cite: a refused recipe, and a recipe that was run by the rule. Assumes nothing.
 use mathlib.Core.Path.{◌≡◌, refl, sym, ap, ap₂, ◌∙◌, subst, subst⁻¹}
-use Rattle.std.specs.Prelude.{Option, Some, Result, Ok, Err, is_ok}
+use Rattle.std.specs.Prelude.{Option, Some, Result, Ok, Err, is_ok, slice_get}
+use Rattle.std.proofs.lemmas.Option.{slice_get_within, get_or_from_slice_get}
 use mathlib.Core.List.{List, [], ◌∷◌}
-use Prim.Native.Nat.{ℕ, zero, suc, ◌-◌, ◌<◌, ◌≤◌}
+use Prim.Native.Nat.{ℕ, zero, suc, ◌-◌}
 use native.Mathlib.Omega.{arith}
 use lib.ListN.{length, get_or, take}
-use lib.Seq.{get_or-take, length-take-le}
 use Rattle.alu.specs.declared.types.Flags.{Flags}
 use Rattle.step.specs.declared.registers.State.{State}
 use Rattle.step.specs.declared.forms.Step.{Step}
@@ -21,25 +21,30 @@ use Rattle.recipes.specs.declared.types.Refused.{Refused}
 use Rattle.recipes.specs.declared.types.RecipeRun.{RecipeRun}
 use Rattle.recipes.specs.Recipe.{unused, recipe_lines}
 use Rattle.recipes.specs.Reader.{read_of}
-use Rattle.step.specs.Lent.{over}
 use Rattle.recipes.specs.Listing.{steps_max, Translated, translated, translate_of, listing_in, listed, blanks, array_of}
 use Rattle.recipes.specs.Rule.{codes_of, Account, account_of, rule_of, rules_of}
-use Rattle.recipes.specs.Demand.{EightLongs, Holds, Meets, ran_by_rule, recipe_run_of, reading_ran, text_run_of}
+use Rattle.recipes.specs.Demand.{EightLongs, Holds, Meets, ran_by_rule, recipe_run_of, text_run_of}
 use Rattle.recipes.specs.Making.{codes_behind, codes_after}
 use Rattle.recipes.proofs.Accepting.{Good, width_is, tests_agree}
 use Rattle.recipes.proofs.Settling.{whole_fits, blanks_fit, blanks_count}
-use Rattle.recipes.proofs.Agreeing.{read_sound, good_passes, good_translates, translated_good}
+use Rattle.recipes.proofs.Agreeing.{read_sound, good_passes, translated_good}
 use Rattle.recipes.proofs.Demand.{one_by_one, ruled_registers}
 
 -- ---- what is told of the flags
 
 -- the last of the lines decides
-pub codes_last : (ls : List Line) (k : ℕ) (f : Flags) → length ls ≡ suc k → codes_after ls f ≡ codes_behind (get_or ls k unused).verb f
+codes_last : (ls : List Line) (k : ℕ) (f : Flags) → length ls ≡ suc k → codes_after ls f ≡ codes_behind (get_or ls k unused).verb f
 codes_last [] k f h = absurd (omega arith)
 codes_last (l ∷ []) zero f h = refl
 codes_last (l ∷ []) (suc k) f h = absurd (omega arith)
 codes_last (l ∷ m ∷ ls) zero f h = absurd (omega arith)
 codes_last (l ∷ m ∷ ls) (suc k) f h = codes_last (m ∷ ls) k f (omega arith)
+
+-- as the code finds it
+pub codes_found : (ls : List Line) (l : Line) (f : Flags) → slice_get ls (length ls - 1) ≡ Some l → codes_after ls f ≡ codes_behind l.verb f
+codes_found ls l f e =
+    let within = slice_get_within ls (length ls - 1) l e in
+    codes_last ls (length ls - 1) f (omega arith) ∙ ap (λ (l : Line). codes_behind l.verb f) (get_or_from_slice_get ls (length ls - 1) l unused e)
 
 -- flags that are as told are told
 line_told : (v : Verb) (n s d : ℕ) (f : Flags) → Holds (codes_of n v s d) f → codes_behind v f ≡ codes_of n v s d

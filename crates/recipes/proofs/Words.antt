@@ -1,5 +1,5 @@
 -- Which fields are no verb, by their length and their first bytes. Assumes nothing.
-use Prim.Native.Nat.{ℕ, suc, ◌≤◌, ◌<◌}
+use Prim.Native.Nat.{ℕ, ◌≤◌, ◌<◌}
 use mathlib.Core.Bool.{false, and-false}
 use mathlib.Core.List.{List, [], ◌∷◌}
 use mathlib.Core.Path.{◌≡◌, refl}
@@ -32,7 +32,7 @@ short_word [] h = refl
 short_word (x ∷ []) h = simp and-false
 short_word (x ∷ y ∷ word) h = absurd (omega arith)
 
--- of two bytes, not `u`; of three, not `a`, `s` or `n`, or behind an `n` not `e` or `o`; of four and of five, not `c` or the other
+-- of two bytes, not `u`; of three, not `a`, `s` or `n`; of four and of five, not `c` or the other, or not the next of a `c`
 pub two_word : (word : List ℕ) → length word ≡ 2 → (get_or word 0 0 ≡ 117 → ⊥) → verb_of word ≡ None
 unfolding verb_of same_bytes
 two_word [] e h0 = absurd (omega arith)
@@ -47,15 +47,6 @@ three_word (x ∷ []) e h0 h1 h2 = absurd (omega arith)
 three_word (x ∷ y ∷ []) e h0 h1 h2 = absurd (omega arith)
 three_word (x ∷ y ∷ z ∷ []) e h0 h1 h2 = let e0 = ne_eqb x 97 h0 in let e1 = ne_eqb x 115 h1 in let e2 = ne_eqb x 110 h2 in simp (e0, e1, e2, and-false)
 three_word (x ∷ y ∷ z ∷ w ∷ word) e h0 h1 h2 = absurd (omega arith)
-
-pub three_word_n : (word : List ℕ) → length word ≡ 3 → get_or word 0 0 ≡ 110 → (get_or word 1 0 ≡ 101 → ⊥) → (get_or word 1 0 ≡ 111 → ⊥) → verb_of word ≡ None
-unfolding verb_of same_bytes
-three_word_n [] e n h0 h1 = absurd (omega arith)
-three_word_n (x ∷ []) e n h0 h1 = absurd (omega arith)
-three_word_n (x ∷ y ∷ []) e n h0 h1 = absurd (omega arith)
-three_word_n (x ∷ y ∷ z ∷ []) e n h0 h1 =
-    let a = ne_eqb x 97 (λ i. omega arith) in let s = ne_eqb x 115 (λ i. omega arith) in let e0 = ne_eqb y 101 h0 in let e1 = ne_eqb y 111 h1 in simp (a, s, e0, e1, and-false)
-three_word_n (x ∷ y ∷ z ∷ w ∷ word) e n h0 h1 = absurd (omega arith)
 
 pub four_word : (word : List ℕ) → length word ≡ 4 → (get_or word 0 0 ≡ 99 → ⊥) → (get_or word 0 0 ≡ 100 → ⊥) → verb_of word ≡ None
 unfolding verb_of same_bytes
@@ -75,6 +66,15 @@ five_word (x ∷ y ∷ z ∷ []) e h0 h1 = absurd (omega arith)
 five_word (x ∷ y ∷ z ∷ u ∷ []) e h0 h1 = absurd (omega arith)
 five_word (x ∷ y ∷ z ∷ u ∷ v ∷ []) e h0 h1 = let e0 = ne_eqb x 99 h0 in let e1 = ne_eqb x 104 h1 in simp (e0, e1, and-false)
 five_word (x ∷ y ∷ z ∷ u ∷ v ∷ w ∷ word) e h0 h1 = absurd (omega arith)
+
+pub four_word_c : (word : List ℕ) → length word ≡ 4 → get_or word 0 0 ≡ 99 → (get_or word 1 0 ≡ 111 → ⊥) → verb_of word ≡ None
+unfolding verb_of same_bytes
+four_word_c [] e c h = absurd (omega arith)
+four_word_c (x ∷ []) e c h = absurd (omega arith)
+four_word_c (x ∷ y ∷ []) e c h = absurd (omega arith)
+four_word_c (x ∷ y ∷ z ∷ []) e c h = absurd (omega arith)
+four_word_c (x ∷ y ∷ z ∷ u ∷ []) e c h = let a = ne_eqb x 100 (λ i. omega arith) in let o = ne_eqb y 111 h in simp (a, o, and-false)
+four_word_c (x ∷ y ∷ z ∷ u ∷ v ∷ word) e c h = absurd (omega arith)
 
 pub five_word_c : (word : List ℕ) → length word ≡ 5 → get_or word 0 0 ≡ 99 → (get_or word 1 0 ≡ 108 → ⊥) → verb_of word ≡ None
 unfolding verb_of same_bytes

@@ -1,6 +1,7 @@
 -- Terms of private functions' contracts: an operand's field, the translator's parts, and what a run tells of the flags. No contract of a
 -- public function names anything of this page, and a reader can leave it out. Assumes nothing.
-use Rattle.std.specs.Prelude.{Bool, cond, ◌&&◌, Option, Some, None, Result, Ok, Err, List, [], ◌∷◌, ℕ, ◌+◌, ◌-◌, ◌*◌, ◌/◌, ◌%◌, ◌≤◌, ◌<◌, ◌≡◌, eqb, length}
+use Rattle.std.specs.Prelude.{Bool, cond, ◌&&◌, Option, Some, Result, Ok, Err, List, [], ◌∷◌, ℕ, ◌+◌, ◌-◌, ◌*◌, ◌/◌, ◌%◌, ◌≤◌, ◌<◌, ◌≡◌, eqb, length}
+use Rattle.std.specs.Bool.{then_some}
 use Rattle.alu.specs.declared.types.Flags.{Flags}
 use Rattle.step.specs.declared.forms.Step.{Step}
 use Rattle.step.specs.declared.forms.OneOp.TheVariants.{Clr}
@@ -79,7 +80,7 @@ pub record Layable (w : ℕ) (ls : List Line) : Type 0 where
 -- ---- what a run tells of the flags
 
 abbrev pub codes_behind : Verb → Flags → Option Flags
-codes_behind v f = cond (way_of v).tells (Some f) None
+codes_behind v f = then_some (way_of v).tells f
 
 -- the last line decides; with no line the flags are as they were
 abbrev pub codes_after : List Line → Flags → Option Flags

@@ -19,10 +19,10 @@ use step::runs::run_array;
 fn codes_after(lines: &[Line], flags: Flags) -> Option<Flags>
     ensures { result ≡ codes_after lines.now flags }
 {
-    match lines.last() {
-        Some(last) if !way_of(last.verb).tells => None,
-        _ => Some(flags),
-    }
+    let Some(last) = lines.last() else {
+        return Some(flags);
+    };
+    way_of(last.verb).tells.then_some(flags)
 }
 
 // Translates a recipe and runs its listing to the end: none has more steps than the budget. A refused recipe is not run.

@@ -1,11 +1,11 @@
--- `recipes::reader::verb_of` meets its contract: the check finds all but two arms, `n` and `c` with a second byte of no verb. Assumes nothing.
+-- `recipes::reader::verb_of` meets its contract: the check finds all arms but two, of a `c` with a second byte of no verb. Assumes nothing.
 use mathlib.Core.Path.{sym}
 use native.Mathlib.Omega.{arith}
-use Rattle.recipes.proofs.Words.{three_word_n, five_word_c}
+use Rattle.recipes.proofs.Words.{four_word_c, five_word_c}
 use Rattle.recipes.proofs.reader.verb_of.Goals as goal
 
 pub returns-in_default-14 : goal.returns-in_default-14
-returns-in_default-14 c = sym (three_word_n _ (omega arith) (omega arith) (λ e. omega arith) (λ e. omega arith))
+returns-in_default-14 c = sym (four_word_c _ (omega arith) (omega arith) (λ e. omega arith))
 
 pub returns-in_default-22 : goal.returns-in_default-22
 returns-in_default-22 c = sym (five_word_c _ (omega arith) (omega arith) (λ e. omega arith))
