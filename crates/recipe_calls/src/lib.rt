@@ -9,13 +9,13 @@
 mod rows;
 mod words;
 
-ghost use Rattle.std.specs.Prelude.{◌≡◌, ◌+◌, ◌*◌, ◌<◌, ◌≤◌, length, take};
+ghost use Rattle.std.specs.Prelude.{◌≡◌, ◌+◌, ◌*◌, ◌<◌, ◌≤◌, length};
 ghost use Rattle.step.specs.Perform.{perform_of};
 ghost use Rattle.step.specs.Run.{run_of, end_numbers};
 ghost use Rattle.text.specs.Wrote.{written, writing};
 ghost use Rattle.recipes.specs.Printer.{listing_text, answer_of};
 ghost use Rattle.recipe_calls.specs.Words.{first_of};
-ghost use Rattle.recipe_calls.specs.Calls.{row_left, state_left, rack_left, translation_told, translate_words, ran_told, run_words, rack_words, promised_of, ccr_after, recipe_run_words};
+ghost use Rattle.recipe_calls.specs.Calls.{row_left, state_of, state_left, rack_left, translation_told, translate_words, ran_told, run_words, rack_words, promised_of, ccr_after, recipe_run_words};
 ghost use Rattle.recipe_calls.specs.Boxes.{box_state, BoxPut};
 
 use alu::types::{ccr, flags_of};
@@ -23,12 +23,13 @@ use recipes::printer::print;
 use recipes::reader::read;
 use recipes::runner::{answer, run_text};
 use recipes::translator::translate_array;
-use recipes::types::{Codes, Refusal, Refused, at_line, is_nothing, number};
-use rows::{eight_at, put_eight, put_steps, put_told, steps_of};
+use recipes::types::{Codes, RecipeRun, Refusal, Refused, at_line, is_nothing, number};
+use rows::{Listing, eight_at, listing_of, put_eight, put_steps};
 use step::forms::Step;
+use step::lent::run;
 use step::racks::plan;
 use step::registers::State;
-use step::runs::{End, Ran, SLOTS, end_line, lesser, run_array};
+use step::runs::{End, Ran, end_line};
 use step::steps::class;
 
 // How many numbers a call tells.
@@ -38,8 +39,7 @@ pub const TOLD: usize = 8;
 fn translation_told(refused: Refused, steps: usize) -> [u64; TOLD]
     ensures { result ≡ translation_told refused steps }
 {
-    let refusal = refused.refusal;
-    let number = number(refusal) as u64;
+    let number = number(refused.refusal) as u64;
     let line = refused.line as u64;
     let column = refused.column as u64;
     [number, line, steps as u64, column, 0, 0, 0, 0]
@@ -60,11 +60,15 @@ pub fn recipe_translate(text: &[u8], listing: &mut [u64], told: &mut [u64; TOLD]
     let made = translate_array(recipe);
     let refused = made.refused;
     let steps = made.steps;
+    let listed = Listing {
+        count: made.count,
+        steps,
+    };
     if listing.len() < made.count {
         *told = translation_told(at_line(Refusal::NoSpace, 0), 0);
         return;
     }
-    put_steps(steps, made.count, listing);
+    put_steps(listed.steps(), listing);
     *told = translation_told(refused, made.count);
 }
 
@@ -84,19 +88,28 @@ fn end_numbers(end: End) -> [u64; 3]
 fn ran_told(ran: Ran) -> [u64; TOLD]
     ensures { result ≡ ran_told ran }
 {
-    let ended = ran.end;
-    let end = end_numbers(ended);
-    let line = end_line(ended);
+    let [end, number, place] = end_numbers(ran.end);
     [
-        end[0],
-        end[1],
-        end[2],
+        end,
+        number,
+        place,
         ran.next as u64,
         ran.steps as u64,
         ran.clocks,
-        line as u64,
+        end_line(ran.end) as u64,
         0,
     ]
+}
+
+// A register set as it crosses.
+fn state_of(d: [u32; 8], a: [u32; 8], flags: u8) -> State
+    ensures { result ≡ state_of d a flags }
+{
+    State {
+        d,
+        a,
+        flags: flags_of(flags),
+    }
 }
 
 // Runs the first `SLOTS` steps of a listing from a place, with a budget. `told` gets the end, the trap's class or the refusal's
@@ -113,28 +126,22 @@ pub fn listing_run(
 )
     ensures { state_left d.new a.new flags.new told.new ≡ run_words listing.now d.old a.old flags.old start budget }
 {
-    let before_d = *d;
-    let before_a = *a;
-    let before = State {
-        d: before_d,
-        a: before_a,
-        flags: flags_of(*flags),
-    };
-    let ran = run_array(steps_of(listing), listing.len(), before, start, budget);
-    let after = ran.state;
-    let after_d = after.d;
-    let after_a = after.a;
-    let after_flags = after.flags;
-    *d = after_d;
-    *a = after_a;
-    *flags = ccr(after_flags);
+    let before = state_of(*d, *a, *flags);
+    let ran = run(listing_of(listing).steps(), before, start, budget);
+    let State {
+        d: new_d,
+        a: new_a,
+        flags: new_flags,
+    } = ran.state;
+    *d = new_d;
+    *a = new_a;
+    *flags = ccr(new_flags);
     *told = ran_told(ran);
 }
 
 // Box i of a rack is run, and its registers and flags are written.
 fn run_box(
-    steps: [Step; SLOTS],
-    count: usize,
+    steps: &[Step],
     d: &mut [u32],
     a: &mut [u32],
     flags: &mut [u8],
@@ -143,23 +150,13 @@ fn run_box(
     budget: u32,
 ) -> Ran
     requires { (8 * i + 8 ≤ length d.old) × (8 * i + 8 ≤ length a.old) × (i < length flags.old) }
-    ensures { (result ≡ run_of perform_of (take count steps) (box_state i d.old a.old flags.old) start budget) × BoxPut i result d.old a.old flags.old d.new a.new flags.new }
+    ensures { (result ≡ run_of perform_of steps.now (box_state i d.old a.old flags.old) start budget) × BoxPut i result d.old a.old flags.old d.new a.new flags.new }
 {
-    let before_d = eight_at(d, i);
-    let before_a = eight_at(a, i);
-    let before = State {
-        d: before_d,
-        a: before_a,
-        flags: flags_of(flags[i]),
-    };
-    let ran = run_array(steps, count, before, start, budget);
-    let after = ran.state;
-    let after_d = after.d;
-    let after_a = after.a;
-    let after_flags = after.flags;
-    put_eight(d, i, after_d);
-    put_eight(a, i, after_a);
-    flags[i] = ccr(after_flags);
+    let before = state_of(eight_at(d, i), eight_at(a, i), flags[i]);
+    let ran = run(steps, before, start, budget);
+    put_eight(d, i, ran.state.d);
+    put_eight(a, i, ran.state.a);
+    flags[i] = ccr(ran.state.flags);
     ran
 }
 
@@ -178,17 +175,15 @@ pub fn rack_run(
 )
     ensures { rack_left d.new a.new flags.new answers.new told.new ≡ rack_words listing.now d.old a.old flags.old starts.now budget answers.old }
 {
-    let steps = steps_of(listing);
-    let words = lesser(lesser(d.len(), a.len()), answers.len());
+    let made = listing_of(listing);
+    let steps = made.steps();
+    let words = d.len().min(a.len()).min(answers.len());
     let racked = plan(flags.len(), starts.len(), words / TOLD);
-    let mut i = 0;
-    while i < racked.boxes {
-        let ran = run_box(steps, listing.len(), d, a, flags, i, starts[i], budget);
-        put_told(answers, i, ran_told(ran));
-        i += 1;
+    for i in 0..racked.boxes {
+        let ran = run_box(steps, d, a, flags, i, starts[i], budget);
+        put_eight(answers, i, ran_told(ran));
     }
-    let fit = racked.fit;
-    let number = step::racks::number(fit) as u64;
+    let number = step::racks::number(racked.fit) as u64;
     *told = [number, racked.boxes as u64, 0, 0, 0, 0, 0, 0];
 }
 
@@ -196,7 +191,8 @@ pub fn rack_run(
 pub fn listing_print(width: u8, listing: &[u64], out: &mut [u8]) -> usize
     ensures { written out.new result ≡ writing out.old 0 (listing_text width (first_of listing.now)) }
 {
-    print(width, steps_of(listing), listing.len(), out)
+    let made = listing_of(listing);
+    print(width, made.steps, made.count, out)
 }
 
 // What the program `recipe` prints for the text that it read.
@@ -237,29 +233,21 @@ pub fn recipe_run(
 )
     ensures { state_left d.new a.new flags.new told.new ≡ recipe_run_words text.now d.old a.old flags.old }
 {
-    let before_d = *d;
-    let before_a = *a;
-    let before = State {
-        d: before_d,
-        a: before_a,
-        flags: flags_of(*flags),
-    };
+    let before = state_of(*d, *a, *flags);
     let ran = run_text(text, before);
-    let after_d = ran.d;
-    let after_a = ran.a;
-    let codes = ran.codes;
-    let refused = ran.refused;
-    let refusal = refused.refusal;
-    *d = after_d;
-    *a = after_a;
-    *flags = ccr_after(ran.x, codes);
+    let RecipeRun {
+        d: new_d, a: new_a, ..
+    } = ran;
+    *d = new_d;
+    *a = new_a;
+    *flags = ccr_after(ran.x, ran.codes);
     *told = [
-        number(refusal) as u64,
-        refused.line as u64,
-        promised(codes) as u64,
+        number(ran.refused.refusal) as u64,
+        ran.refused.line as u64,
+        promised(ran.codes) as u64,
         ran.steps as u64,
         ran.clocks,
-        refused.column as u64,
+        ran.refused.column as u64,
         0,
         0,
     ];

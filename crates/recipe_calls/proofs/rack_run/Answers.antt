@@ -22,8 +22,8 @@ loop-i-preserved c =
     let n = c.plan-racked.result.boxes in
     let start = get_or a.starts.now l.i 0 in
     let inside : l.i < n = c.loop-i-test.true in
-    let ran = c.run_box-ran.ensures.0 ∙ ap (λ (k : List Step). run_of perform_of k (box_state l.i l.d l.a l.flags) start a.budget) c.steps_of-steps.ensures in
-    let told = c.put_told.ensures ∙ ap (λ (w : List ℕ). paste l.answers (8 * l.i) w 8) c.ran_told.ensures in
+    let ran = c.run_box-ran.ensures.0 ∙ ap (λ (k : List Step). run_of perform_of k (box_state l.i l.d l.a l.flags) start a.budget) (c.steps-steps.ensures ∙ c.listing_of-made.ensures) in
+    let told = c.put_eight.ensures ∙ ap (λ (w : List ℕ). paste l.answers (8 * l.i) w 8) c.ran_told.ensures in
     let steps = first_of a.listing.now in
     let after = after_next steps n a.d.now a.a.now a.flags.now a.starts.now a.budget a.answers.now l.invariant.1 l.invariant.2
     l.d l.a l.flags l.answers l.i inside l.invariant.10 c.run_box-ran.result ran _ _ _ _ c.run_box-ran.ensures.1 told in
@@ -36,7 +36,7 @@ returns c =
     let l = c.loop-i in
     let a = c.args in
     let k = c.plan-racked.result in
-    let is = c.lesser-words.ensures ∙ ap (λ (m : ℕ). min m (length a.answers.now)) c.lesser.ensures in
+    let is = c.min-words.ensures ∙ ap (λ (m : ℕ). min m (length a.answers.now)) c.min.ensures in
     let plan : k ≡ plan_of (length a.flags.now) (length a.starts.now) (min (min (length a.d.now) (length a.a.now)) (length a.answers.now) / 8) =
     c.plan-racked.ensures ∙ ap (λ (m : ℕ). plan_of (length a.flags.now) (length a.starts.now) (m / 8)) is in
     let all : l.i ≡ k.boxes = omega (arith, c.loop-i-test.false, l.invariant.0) in

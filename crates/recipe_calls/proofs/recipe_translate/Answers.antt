@@ -16,7 +16,7 @@ pub returns : goal.returns
 returns c =
     let a = c.args in
     let r = c.read-reading in
-    rw (c.translation_told-2.ensures, c.put_steps.ensures)
+    rw (c.translation_told-2.ensures, c.put_steps.ensures, c.steps.ensures)
     (ap (listed_in a.listing.now) c.translate_array-made.ensures
     ∙ (fits a.listing.now r.result.recipe (rw (← c.translate_array-made.ensures) c.if-listing-made.false)
     ∙ passed a.text.now a.listing.now r.result r.ensures (sym c.is_nothing.ensures ∙ c.if-not-is_nothing.false)))
