@@ -1,5 +1,6 @@
 -- What the functions for Rust and C leave behind: the rows that they are lent, and what they tell, in a row of eight numbers. Assumes nothing.
 use Rattle.std.specs.Prelude.{ℕ, ◌*◌, ◌/◌, min, Bool, cond, List, [], ◌∷◌, ◌++◌, map, length, take, drop, replicate}
+use Rattle.std.specs.List.{flat_map}
 use Rattle.alu.specs.Bits.{digit}
 use Rattle.alu.specs.ConditionCodes.{flags_of, ccr_of}
 use Rattle.step.specs.declared.registers.State.{State}
@@ -80,11 +81,6 @@ abbrev pub sets_of : (d a flags : List ℕ) → List State
 sets_of d a [] = []
 sets_of d a (f ∷ flags) = state_of (take 8 d) (take 8 a) f ∷ sets_of (drop 8 d) (drop 8 a) flags
 
--- what the runs leave, one behind the other
-abbrev pub joined : (Ran → List ℕ) → List Ran → List ℕ
-joined g [] = []
-joined g (r ∷ rs) = g r ++ joined g rs
-
 -- a rack's rows, and what is told
 pub record RackLeft : Type 0 where
   pub d : List ℕ
@@ -96,12 +92,12 @@ pub record RackLeft : Type 0 where
 abbrev pub rack_left : (d a flags answers told : List ℕ) → RackLeft
 rack_left d a flags answers told = record { d = d; a = a; flags = flags; answers = answers; told = told }
 
--- as a rack of the crate step, by its plan
+-- as a rack of the crate step, by its plan: what the runs leave, one behind the other
 abbrev pub rack_by : (listing d a flags starts : List ℕ) → (budget : ℕ) → (answers : List ℕ) → Racked → RackLeft
 rack_by listing d a flags starts budget answers plan =
     let runs = runs_of perform_of (first_of listing) (take plan.boxes (sets_of d a flags)) starts budget in
-    rack_left (over (joined (λ r. r.state.d) runs) d) (over (joined (λ r. r.state.a) runs) a) (over (map (λ r. ccr_of r.state.flags) runs) flags)
-    (over (joined ran_told runs) answers) (fit_number plan.fit ∷ plan.boxes ∷ 0 ∷ 0 ∷ 0 ∷ 0 ∷ 0 ∷ 0 ∷ [])
+    rack_left (over (flat_map (λ r. r.state.d) runs) d) (over (flat_map (λ r. r.state.a) runs) a) (over (map (λ r. ccr_of r.state.flags) runs) flags)
+    (over (flat_map ran_told runs) answers) (fit_number plan.fit ∷ plan.boxes ∷ 0 ∷ 0 ∷ 0 ∷ 0 ∷ 0 ∷ 0 ∷ [])
 
 -- each row has as many slots as it has eights of words: one whose row of registers is too short is refused too
 abbrev pub rack_words : (listing d a flags starts : List ℕ) → (budget : ℕ) → (answers : List ℕ) → RackLeft
