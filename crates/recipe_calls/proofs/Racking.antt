@@ -10,6 +10,8 @@ use mathlib.Core.Path.{◌≡◌, refl, sym, ap, ap₂, subst, subst⁻¹, ◌�
 use mathlib.Core.List.{List, [], ◌∷◌, ◌++◌, map, append_assoc}
 use native.Mathlib.Omega.{arith}
 use lib.ListN.{length, take, drop, get_or, set, length-append, length-drop, length-map, get_or-map}
+use Rattle.std.specs.Prelude.{Ok, Err, IsOk}
+use Rattle.std.specs.Result.{result_unwrap_or}
 use Rattle.std.specs.List.{flat_map}
 use Rattle.std.proofs.lemmas.List.{take_more, flat_map_more}
 use lib.Seq.{take_all, length-take-le, take-append_seam, drop-append_seam, drop-append-add, drop-drop, take_at, paste}
@@ -22,14 +24,12 @@ use Rattle.step.specs.declared.runs.End.{End}
 use Rattle.step.specs.declared.runs.End.TheVariants.{Finished, Budget, Trapped, Refused}
 use Rattle.step.specs.Run.{ends, run_of, end_numbers}
 use Rattle.step.specs.Lent.{over}
-use Rattle.step.specs.declared.racks.Racked.{Racked}
-use Rattle.step.specs.declared.racks.Fit.TheVariants.{Fits}
-use Rattle.step.specs.Rack.{fit_number, plan_of, runs_of}
+use Rattle.step.specs.Rack.{Plan, boxes_of, plan_of, runs_of}
 use Rattle.step.proofs.Rows.{over_put, over_before, over_past}
-use Rattle.step.proofs.Boxes.{plan_fits, plan_fitting, first_many, first_at_lem}
+use Rattle.step.proofs.Boxes.{Within, plan_fits, plan_fitting, plan_within, first_many, first_at_lem}
 use Rattle.step.proofs.Kept.{AsMany, step_kept, run_kept}
 use Rattle.recipe_calls.specs.Words.{first_of}
-use Rattle.recipe_calls.specs.Calls.{StateLeft, state_of, state_left, ran_told, ran_left, run_words, sets_of, rack_left, rack_by, rack_words}
+use Rattle.recipe_calls.specs.Calls.{StateLeft, state_of, state_left, ran_told, ran_left, run_words, sets_of, rack_left, rack_told, rack_by, rack_words}
 use Rattle.recipe_calls.specs.Boxes.{eight_at, box_state, BoxPut}
 
 -- ---- the register sets
@@ -159,19 +159,26 @@ module _ (l : List Step) (n : ℕ) (d₀ a₀ flags₀ starts : List ℕ) (b : �
 
 -- ---- the whole rack, by its plan
 
-pub after_all : (listing d₀ a₀ flags₀ starts : List ℕ) (budget : ℕ) (answers₀ d a flags answers : List ℕ) (i k : ℕ) (plan : Racked) →
-    plan.boxes ≤ length flags₀ → plan.boxes ≤ length starts → i ≡ plan.boxes → k ≡ fit_number plan.fit →
-    After (first_of listing) plan.boxes d₀ a₀ flags₀ starts budget answers₀ d a flags answers i →
-    rack_left d a flags answers (k ∷ plan.boxes ∷ 0 ∷ 0 ∷ 0 ∷ 0 ∷ 0 ∷ 0 ∷ []) ≡ rack_by listing d₀ a₀ flags₀ starts budget answers₀ plan
-after_all listing d₀ a₀ flags₀ starts budget answers₀ d a flags answers i k plan sets places e number t =
-    let rs = runs (first_of listing) plan.boxes d₀ a₀ flags₀ starts budget answers₀ in
-    let last : i ≡ length rs = e ∙ sym (runs_many (first_of listing) plan.boxes d₀ a₀ flags₀ starts budget answers₀ sets places) in
+pub boxes_are : (plan : Plan) → result_unwrap_or plan 0 ≡ boxes_of plan
+boxes_are (Ok boxes) = refl
+boxes_are (Err refusal) = refl
+
+pub within_planned : (a b c : ℕ) (plan : Plan) → plan ≡ plan_of a b c → Within (boxes_of plan) a b c
+within_planned a b c plan e = rw e (plan_within a b c)
+
+pub after_all : (listing d₀ a₀ flags₀ starts : List ℕ) (budget : ℕ) (answers₀ d a flags answers : List ℕ) (i : ℕ) (plan : Plan) →
+    boxes_of plan ≤ length flags₀ → boxes_of plan ≤ length starts → i ≡ boxes_of plan →
+    After (first_of listing) (boxes_of plan) d₀ a₀ flags₀ starts budget answers₀ d a flags answers i →
+    rack_left d a flags answers (rack_told plan) ≡ rack_by listing d₀ a₀ flags₀ starts budget answers₀ plan
+after_all listing d₀ a₀ flags₀ starts budget answers₀ d a flags answers i plan sets places e t =
+    let n = boxes_of plan in
+    let rs = runs (first_of listing) n d₀ a₀ flags₀ starts budget answers₀ in
+    let last : i ≡ length rs = e ∙ sym (runs_many (first_of listing) n d₀ a₀ flags₀ starts budget answers₀ sets places) in
     rw (
       filled_all _ rs d₀ d i t.of_d last,
       filled_all _ rs a₀ a i t.of_a last,
       t.of_flags ∙ ap (λ (xs : List Ran). over (map ccr_left xs) flags₀) (take_all i rs (omega (arith, last))),
       filled_all ran_told rs answers₀ answers i t.of_answers last,
-      number,
     )
 
 -- ---- how many boxes there is room for
@@ -200,7 +207,7 @@ boxed_at g (r ∷ rs) (suc i) rest each h =
 -- Each box of a rack that is not refused is what `listing_run` leaves of it, and tells
 pub rack_single :
     (listing d a flags starts : List ℕ) (budget : ℕ) (answers : List ℕ) →
-    (plan_of (length flags) (length starts) (min (min (length d) (length a)) (length answers) / 8)).fit ≡ Fits → (i : ℕ) → i < length flags →
+    IsOk (plan_of (length flags) (length starts) (min (min (length d) (length a)) (length answers) / 8)) → (i : ℕ) → i < length flags →
     let k = rack_words listing d a flags starts budget answers in
     state_left (eight_at i k.d) (eight_at i k.a) (get_or k.flags i 0) (eight_at i k.answers)
     ≡ run_words listing (eight_at i d) (eight_at i a) (get_or flags i 0) (get_or starts i 0) budget
@@ -223,9 +230,9 @@ rack_single listing d a flags starts budget answers fits i inside =
     let each-a : (j : ℕ) → j < length rs → length (get_or rs j none).state.a ≡ 8 =
     λ j k. let g : j < n = omega (arith, k, many) in (kept j g).address_registers ∙ eight a j g room.in_a in
     let here : i < length rs = omega (arith, inside, many) in
-    let left : Racked → StateLeft = λ p.
+    let left : Plan → StateLeft = λ p.
     let k = rack_by listing d a flags starts budget answers p in state_left (eight_at i k.d) (eight_at i k.a) (get_or k.flags i 0) (eight_at i k.answers) in
-    let words : left (record { fit = Fits; boxes = n }) ≡ ran_left (get_or rs i none) =
+    let words : left (Ok n) ≡ ran_left (get_or rs i none) =
     rw (
       boxed_at (λ r. r.state.d) rs i (drop (length (flat_map (λ r. r.state.d) rs)) d) each-d here,
       boxed_at (λ r. r.state.a) rs i (drop (length (flat_map (λ r. r.state.a) rs)) a) each-a here,

@@ -23,7 +23,7 @@ use Rattle.step.specs.Run.{array_slots}
 use Rattle.step.specs.Lines.{with_line}
 use Rattle.recipe_calls.specs.declared.words.Source.{Source}
 use Rattle.recipe_calls.specs.declared.words.Source.TheVariants.{Absent, Small, Data}
-use Rattle.recipe_calls.specs.Words.{byte_radix, operation_named, source_at, made_of, size_at, named, bare_of, step_of, first_of, step_word}
+use Rattle.recipe_calls.specs.Words.{byte_radix, source_at, made_of, size_at, named, bare_of, step_of, first_of, step_word}
 use Rattle.recipe_calls.specs.Words.{size_number, source_of, kind_of, number_in, source_kind, source_number, destination_number}
 use Rattle.recipe_calls.proofs.Naming.{low}
 
@@ -41,9 +41,6 @@ form_found (Form.Shift op (Count.Data k) q) = refl
 form_found (Form.Bit op (Count.Small k) q) = refl
 form_found (Form.Bit op (Count.Data k) q) = refl
 form_found (Form.Chk p q) = refl
-
-operation_found : (o : Operation) → operation_named (operation_number o) ≡ Some o
-operation_found o = rw ((stands o).1, operation_named)
 
 source_found : (s : Source) → source_at (kind_of s) (number_in s) ≡ Some s
 source_found Absent = refl
@@ -107,7 +104,7 @@ unfolding named
 named_found k h =
     let w = step_word k in
     let b : (i : ℕ) → get_or (to_le_bytes w64 w) i 0 ≡ get_or (bytes_of k) i 0 = λ i. ap (λ (bs : List ℕ). get_or bs i 0) (bytes_found k h) in
-    rw (low w ∙ b 0, b 1, b 2, b 3, b 4, operation_found (operation_of k.form), source_found (source_of k.form), form_found k.form, size_found k.size)
+    rw (low w ∙ b 0, b 1, b 2, b 3, b 4, (stands (operation_of k.form)).1, source_found (source_of k.form), form_found k.form, size_found k.size)
 
 pub word_names : (k : Step) → Bytes k → step_of (step_word k) ≡ k
 word_names k h = rw (named_found k h, ap (λ (bs : List ℕ). get_or bs 5 0) (bytes_found k h))

@@ -8,7 +8,6 @@ use Rattle.step.specs.declared.forms.Form.{Form}
 use Rattle.step.specs.declared.forms.Step.{Step}
 use Rattle.step.specs.declared.forms.Operation.{Operation}
 use Rattle.step.specs.declared.forms.Operation.TheVariants.{Two, Address, Quick, QuickAddress, One, Shift, Bit, Chk}
-use Rattle.step.specs.declared.forms.Found.{Found}
 use Rattle.step.specs.Operations.{operation_at, operation_number, operation_of}
 use Rattle.step.specs.Run.{array_slots}
 use Rattle.step.specs.Lines.{with_line}
@@ -59,14 +58,10 @@ infixl 10 ◌>>=◌
 abbrev pub ◌>>=◌ : {A B : Type 0} → Option A → (A → Option B) → Option B
 o >>= f = option_and_then f o
 
--- (until step's operation_at answers an Option)
-abbrev pub operation_named : ℕ → Option Operation
-operation_named n = elim (operation_at n) [ Found.Is o ↦ Some o | Found.NoOperation ↦ None ]
-
 -- the step that a word names, without its line, if it names one
 unfoldable pub named : (word : ℕ) → Option Step
 named word = do
-  operation ← operation_named (byte_of 0 word)
+  operation ← operation_at (byte_of 0 word)
   source ← source_at (byte_of 2 word) (byte_of 3 word)
   form ← made_of operation source (byte_of 4 word)
   size ← size_at (byte_of 1 word)

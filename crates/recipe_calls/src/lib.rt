@@ -15,34 +15,51 @@ ghost use Rattle.step.specs.Run.{run_of, end_numbers};
 ghost use Rattle.text.specs.Wrote.{written, writing};
 ghost use Rattle.recipes.specs.Printer.{listing_text, answer_of};
 ghost use Rattle.recipe_calls.specs.Words.{first_of};
-ghost use Rattle.recipe_calls.specs.Calls.{row_left, state_of, state_left, rack_left, translation_told, translate_words, ran_told, run_words, rack_words, promised_of, ccr_after, recipe_run_words};
+ghost use Rattle.recipe_calls.specs.Calls.{row_left, state_of, state_left, rack_left, translation_told, translate_words, ran_told, run_words, rack_told, rack_words, promised_of, ccr_after, recipe_run_words};
 ghost use Rattle.recipe_calls.specs.Boxes.{box_state, BoxPut};
 
-use alu::types::{ccr, flags_of};
+use alu::types::Flags;
 use recipes::printer::print;
 use recipes::reader::read;
 use recipes::runner::{answer, run_text};
 use recipes::translator::translate_array;
-use recipes::types::{Codes, RecipeRun, Refusal, Refused, at_line, is_nothing, number};
-use rows::{Listing, eight_at, listing_of, put_eight, put_steps};
+use recipes::types::{RecipeRun, Refusal, Refused, at_line};
+use rows::{eight_at, listing_of, put_eight, put_steps};
 use step::forms::Step;
 use step::lent::run;
-use step::racks::plan;
+use step::racks::{TooManyBoxes, plan};
 use step::registers::State;
-use step::runs::{End, Ran, end_line};
-use step::steps::class;
+use step::runs::{End, Ran};
 
 // How many numbers a call tells.
 pub const TOLD: usize = 8;
 
-// What is told of a translation.
-fn translation_told(refused: Refused, steps: usize) -> [u64; TOLD]
-    ensures { result ≡ translation_told refused steps }
+// What is told of a translation: how many steps it has, or why there is none.
+fn translation_told(made: Result<usize, Refused>) -> [u64; TOLD]
+    ensures { result ≡ translation_told made }
 {
-    let number = number(refused.refusal) as u64;
-    let line = refused.line as u64;
-    let column = refused.column as u64;
-    [number, line, steps as u64, column, 0, 0, 0, 0]
+    match made {
+        Ok(steps) => [0, 0, steps as u64, 0, 0, 0, 0, 0],
+        Err(refused) => {
+            let number = u64::from(u8::from(refused.refusal));
+            let line = refused.line as u64;
+            let column = refused.column as u64;
+            [number, line, 0, column, 0, 0, 0, 0]
+        }
+    }
+}
+
+// Reads a recipe text, translates it, and writes its steps.
+#[tactic(auto, using(crate::proofs::Telling::unlisted, crate::proofs::Telling::short, crate::proofs::Telling::fits))]
+fn translate(text: &[u8], listing: &mut [u64]) -> Result<usize, Refused>
+    ensures { row_left listing.new (translation_told result) ≡ translate_words text.now listing.old }
+{
+    let made = translate_array(read(text)?)?;
+    if listing.len() < made.count {
+        return Err(at_line(Refusal::NoSpace, 0));
+    }
+    put_steps(made.steps(), listing);
+    Ok(made.count)
 }
 
 // Reads a recipe text and translates it into a listing. `told` gets the refusal number, its text line, the number of steps and
@@ -50,26 +67,7 @@ fn translation_told(refused: Refused, steps: usize) -> [u64; TOLD]
 pub fn recipe_translate(text: &[u8], listing: &mut [u64], told: &mut [u64; TOLD])
     ensures { row_left listing.new told.new ≡ translate_words text.now listing.old }
 {
-    let reading = read(text);
-    let slip = reading.refused;
-    let recipe = reading.recipe;
-    if !is_nothing(slip) {
-        *told = translation_told(slip, 0);
-        return;
-    }
-    let made = translate_array(recipe);
-    let refused = made.refused;
-    let steps = made.steps;
-    let listed = Listing {
-        count: made.count,
-        steps,
-    };
-    if listing.len() < made.count {
-        *told = translation_told(at_line(Refusal::NoSpace, 0), 0);
-        return;
-    }
-    put_steps(listed.steps(), listing);
-    *told = translation_told(refused, made.count);
+    *told = translation_told(translate(text, listing));
 }
 
 // Which of the four ends it is, its trap's class or its refusal's number, and the place of either.
@@ -79,8 +77,8 @@ fn end_numbers(end: End) -> [u64; 3]
     match end {
         End::Finished => [0, 0, 0],
         End::Budget => [1, 0, 0],
-        End::Trapped(trap, place, _) => [2, class(trap) as u64, place as u64],
-        End::Refused(fault, place, _) => [3, step::steps::number(fault) as u64, place as u64],
+        End::Trapped(trap, place, _) => [2, u64::from(u32::from(trap)), place as u64],
+        End::Refused(fault, place, _) => [3, u64::from(u32::from(fault)), place as u64],
     }
 }
 
@@ -94,9 +92,9 @@ fn ran_told(ran: Ran) -> [u64; TOLD]
         number,
         place,
         ran.next as u64,
-        ran.steps as u64,
+        u64::from(ran.steps),
         ran.clocks,
-        end_line(ran.end) as u64,
+        u64::from(ran.end.line()),
         0,
     ]
 }
@@ -108,7 +106,7 @@ fn state_of(d: [u32; 8], a: [u32; 8], flags: u8) -> State
     State {
         d,
         a,
-        flags: flags_of(flags),
+        flags: Flags::from(flags),
     }
 }
 
@@ -135,7 +133,7 @@ pub fn listing_run(
     } = ran.state;
     *d = new_d;
     *a = new_a;
-    *flags = ccr(new_flags);
+    *flags = u8::from(new_flags);
     *told = ran_told(ran);
 }
 
@@ -156,8 +154,18 @@ fn run_box(
     let ran = run(steps, before, start, budget);
     put_eight(d, i, ran.state.d);
     put_eight(a, i, ran.state.a);
-    flags[i] = ccr(ran.state.flags);
+    flags[i] = u8::from(ran.state.flags);
     ran
+}
+
+// What is told of a rack: how many boxes are run, or why none is.
+fn rack_told(plan: Result<usize, TooManyBoxes>) -> [u64; TOLD]
+    ensures { result ≡ rack_told plan }
+{
+    match plan {
+        Ok(boxes) => [0, boxes as u64, 0, 0, 0, 0, 0, 0],
+        Err(refusal) => [u64::from(u8::from(refusal)), 0, 0, 0, 0, 0, 0, 0],
+    }
 }
 
 // Runs the first `SLOTS` steps of a listing on a rack of as many boxes as there are flags, each from its own start place and
@@ -178,13 +186,12 @@ pub fn rack_run(
     let made = listing_of(listing);
     let steps = made.steps();
     let words = d.len().min(a.len()).min(answers.len());
-    let racked = plan(flags.len(), starts.len(), words / TOLD);
-    for i in 0..racked.boxes {
+    let plan = plan(flags.len(), starts.len(), words / TOLD);
+    for i in 0..plan.unwrap_or(0) {
         let ran = run_box(steps, d, a, flags, i, starts[i], budget);
         put_eight(answers, i, ran_told(ran));
     }
-    let number = step::racks::number(racked.fit) as u64;
-    *told = [number, racked.boxes as u64, 0, 0, 0, 0, 0, 0];
+    *told = rack_told(plan);
 }
 
 // Prints the first `SLOTS` steps of a listing, as the program `recipe` does, and answers how many bytes it wrote.
@@ -203,22 +210,22 @@ pub fn recipe_answer(text: &[u8], out: &mut [u8]) -> usize
 }
 
 // The flags that document 01 promises behind a recipe, as bits: all five, or X alone.
-fn promised(codes: Codes) -> u8
+fn promised(codes: Option<Flags>) -> u8
     ensures { result ≡ promised_of codes }
 {
     match codes {
-        Codes::Open => 16,
-        Codes::Known(_) => 31,
+        None => 16,
+        Some(_) => 31,
     }
 }
 
 // Those flags.
-fn ccr_after(x: bool, codes: Codes) -> u8
+fn ccr_after(x: bool, codes: Option<Flags>) -> u8
     ensures { result ≡ ccr_after x codes }
 {
     match codes {
-        Codes::Open => { if x { 16 } else { 0 } }
-        Codes::Known(flags) => ccr(flags),
+        None => { if x { 16 } else { 0 } }
+        Some(flags) => u8::from(flags),
     }
 }
 
@@ -234,21 +241,24 @@ pub fn recipe_run(
     ensures { state_left d.new a.new flags.new told.new ≡ recipe_run_words text.now d.old a.old flags.old }
 {
     let before = state_of(*d, *a, *flags);
-    let ran = run_text(text, before);
-    let RecipeRun {
-        d: new_d, a: new_a, ..
-    } = ran;
-    *d = new_d;
-    *a = new_a;
-    *flags = ccr_after(ran.x, ran.codes);
-    *told = [
-        number(ran.refused.refusal) as u64,
-        ran.refused.line as u64,
-        promised(ran.codes) as u64,
-        ran.steps as u64,
-        ran.clocks,
-        ran.refused.column as u64,
-        0,
-        0,
-    ];
+    match run_text(text, before) {
+        Ok(ran) => {
+            let RecipeRun {
+                d: new_d, a: new_a, ..
+            } = ran;
+            *d = new_d;
+            *a = new_a;
+            *flags = ccr_after(ran.x, ran.codes);
+            let mask = u64::from(promised(ran.codes));
+            *told = [0, 0, mask, u64::from(ran.steps), ran.clocks, 0, 0, 0];
+        }
+        Err(refused) => {
+            *flags = u8::from(before.flags);
+            let mask = u64::from(promised(Some(before.flags)));
+            let number = u64::from(u8::from(refused.refusal));
+            let line = refused.line as u64;
+            let column = refused.column as u64;
+            *told = [number, line, mask, 0, 0, column, 0, 0];
+        }
+    }
 }

@@ -5,22 +5,9 @@ ghost use Rattle.recipe_calls.specs.Words.{step_word, first_of};
 ghost use Rattle.recipe_calls.specs.Boxes.{eight_at, eight_put};
 
 use super::words::{no_step, step_of, step_word};
+use recipes::types::Listing;
 use step::forms::Step;
 use step::runs::SLOTS;
-
-#[derive(Clone, Copy)]
-pub(crate) struct Listing {
-    pub count: usize,
-    pub steps: [Step; SLOTS],
-}
-
-impl Listing {
-    pub(crate) fn steps(&self) -> &[Step]
-        ensures { result.now ≡ take self.now.count self.now.steps }
-    {
-        &self.steps[..self.count.min(SLOTS)]
-    }
-}
 
 // The steps that the first `SLOTS` words of a listing name; in the slots behind them, steps that are refused.
 pub(crate) fn listing_of(words: &[u64]) -> Listing

@@ -1,12 +1,12 @@
 // A step as one number, laid out as `specs/Words.antt` says. An operation has the number by which `alu_call` knows it.
 // In a contract a name is the definition of specs/, not the function here.
 ghost use Rattle.std.specs.Prelude.{◌≡◌};
-ghost use Rattle.recipe_calls.specs.Words.{source_at, kind_of, number_in, of_register, of_count, made_of, size_at, no_step, operation_named, named, step_of};
+ghost use Rattle.recipe_calls.specs.Words.{source_at, kind_of, number_in, of_register, of_count, made_of, size_at, no_step, named, step_of};
 ghost use Rattle.recipe_calls.specs.Words.{size_number, register_number, source_of, destination_number, step_word};
 
 use alu::types::Size;
 use step::forms::{
-    Count, Form, Found, Operation, Register, Step, number, operation_at, operation_of, with_line,
+    Count, Form, Operation, Register, Step, operation_at, operation_of, with_line,
 };
 use step::registers::{A, D};
 
@@ -97,22 +97,13 @@ pub(crate) fn no_step() -> Step
     }
 }
 
-fn operation_named(number: u8) -> Option<Operation>
-    ensures { result ≡ operation_named number }
-{
-    match operation_at(number) {
-        Found::Is(operation) => Some(operation),
-        Found::NoOperation => None,
-    }
-}
-
 // The step that the bytes of a word name, if they name one; its line is not among them.
 #[tactic(auto, using(crate::proofs::Naming::low), unfolding(crate::specs::Words::named))]
 fn named(word: u64) -> Option<Step>
     ensures { result ≡ named word }
 {
     let [operation, size, kind, source, destination, _, _, _] = word.to_le_bytes();
-    let operation = operation_named(operation)?;
+    let operation = operation_at(operation)?;
     let source = Source::at(kind, source)?;
     let form = form_of(operation, source, destination)?;
     let size = size_at(size)?;
@@ -194,7 +185,7 @@ fn operands(form: Form) -> (Source, u8)
 pub(crate) fn step_word(step: Step) -> u64
     ensures { result ≡ step_word step }
 {
-    let operation = number(operation_of(step.form));
+    let operation = u8::from(operation_of(step.form));
     let (source, destination) = operands(step.form);
     let (kind, source) = source.kind_and_number();
     let size = size_number(step.size);
