@@ -7,7 +7,7 @@ ghost use Rattle.alu.specs.Bitops.{bit_flags, bitop_of};
 
 use super::types::{Answer, Flags, Size, Verdict, accepted, refused};
 
-#[derive(Clone, Copy)]
+#[derive(Clone, Copy, PartialEq, Eq)]
 pub enum BitOp {
     Btst,
     Bset,

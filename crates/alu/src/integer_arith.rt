@@ -16,7 +16,7 @@ ghost use Rattle.alu.specs.Arith.{cmp_of, cmpa_of, clr_of, neg_of, negx_of, not_
 ghost use Rattle.alu.specs.Places.{summed, added, subtracted};
 
 use super::types::{
-    Answer, Check, Checked, Flags, Size, Verdict, Width, accepted, digit, figure, masked, refused,
+    Answer, Check, Checked, Flags, Size, Verdict, Width, accepted, figure, masked, refused,
     result_flags, top, width_flags, width_of,
 };
 
@@ -47,7 +47,7 @@ fn add(size: Size, src: u32, dst: u32, x: bool) -> Sum
     let mask = w.mask;
     let s = src & mask;
     let d = dst & mask;
-    let whole = d as u64 + s as u64 + digit(x) as u64;
+    let whole = d as u64 + s as u64 + u64::from(x);
     let long = (whole % 0x1_0000_0000) as u32;
     let result = long & mask;
     let overflow = (s ^ result) & (d ^ result);
@@ -64,7 +64,7 @@ fn subtract(size: Size, src: u32, dst: u32, x: bool) -> Sum
     let mask = w.mask;
     let s = src & mask;
     let d = dst & mask;
-    let less = s as u64 + digit(x) as u64;
+    let less = s as u64 + u64::from(x);
     let whole = 0x1_0000_0000 + d as u64 - less;
     let long = (whole % 0x1_0000_0000) as u32;
     let result = long & mask;

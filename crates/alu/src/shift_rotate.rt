@@ -9,10 +9,10 @@ ghost use Rattle.alu.specs.Shifts.{start, moved, changed, shift_answer, shifted,
 ghost use Rattle.alu.specs.Places.{above, below, from_above, from_below, turned_left};
 
 use super::types::{
-    Answer, Flags, Size, Verdict, accepted, digit, figure, masked, refused, result_flags, top,
+    Answer, Flags, Size, Verdict, accepted, figure, masked, refused, result_flags, top,
 };
 
-#[derive(Clone, Copy)]
+#[derive(Clone, Copy, PartialEq, Eq)]
 pub enum ShiftOp {
     Asl,
     Asr,
@@ -25,7 +25,7 @@ pub enum ShiftOp {
 }
 
 // An operand and the bit that went out of it last; before the first position that is X.
-#[derive(Clone, Copy)]
+#[derive(Clone, Copy, PartialEq, Eq)]
 pub struct Held {
     pub value: u32,
     pub out: bool,
@@ -57,7 +57,7 @@ fn above_of(size: Size, value: u32, x: bool) -> u64
     ensures { (result ≡ above (bits_of size) (start (bits_of size) value x)) × (result < 2 ^ 33) }
 {
     let operand = masked(size, value as u64) as u64;
-    let weight = digit(x) as u64 * modulus(size);
+    let weight = u64::from(x) * modulus(size);
     operand + weight
 }
 
@@ -65,7 +65,7 @@ fn below_of(size: Size, value: u32, x: bool) -> u64
     ensures { (result ≡ below (start (bits_of size) value x)) × (result < 2 ^ 33) }
 {
     let operand = masked(size, value as u64) as u64;
-    2 * operand + digit(x) as u64
+    2 * operand + u64::from(x)
 }
 
 // And back: the operand, and the bit in X's place.

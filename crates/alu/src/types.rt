@@ -6,7 +6,7 @@ ghost use Rattle.alu.specs.ConditionCodes.{result_flags, flags_of, ccr_of};
 ghost use Rattle.alu.specs.Answers.{number_of, class_of, accepted, refused, figure};
 
 // The size of an operation: 8, 16 or 32 bits.
-#[derive(Clone, Copy)]
+#[derive(Clone, Copy, PartialEq, Eq)]
 pub enum Size {
     Byte,
     Word,
@@ -14,7 +14,7 @@ pub enum Size {
 }
 
 // The condition codes: extend, negative, zero, overflow, carry.
-#[derive(Clone, Copy)]
+#[derive(Clone, Copy, PartialEq, Eq)]
 pub struct Flags {
     pub x: bool,
     pub n: bool,
@@ -24,7 +24,7 @@ pub struct Flags {
 }
 
 // Whether an operation was accepted. BadCount and NoSuchSize are document 01's refusals 1 and 2.
-#[derive(Clone, Copy)]
+#[derive(Clone, Copy, PartialEq, Eq)]
 pub enum Verdict {
     Accepted,
     BadCount,
@@ -32,7 +32,7 @@ pub enum Verdict {
 }
 
 // What an operation hands back. `clocks` is document 01's clock figure.
-#[derive(Clone, Copy)]
+#[derive(Clone, Copy, PartialEq, Eq)]
 pub struct Answer {
     pub verdict: Verdict,
     pub result: u32,
@@ -42,7 +42,7 @@ pub struct Answer {
 
 // CHK's class. Over: the value is above the bound. Below: it is below 0. Short: it is below 0 too, and
 // value - bound overflows, which the crate m68k traps on the short path of Over. These three are traps.
-#[derive(Clone, Copy)]
+#[derive(Clone, Copy, PartialEq, Eq)]
 pub enum Check {
     Pass,
     Over,
@@ -51,37 +51,41 @@ pub enum Check {
 }
 
 // What CHK hands back.
-#[derive(Clone, Copy)]
+#[derive(Clone, Copy, PartialEq, Eq)]
 pub struct Checked {
     pub check: Check,
     pub answer: Answer,
 }
 
 // Document 01's number of a refusal, 0 for none.
-pub fn number(verdict: Verdict) -> u32
-    ensures { result ≡ number_of verdict }
-{
-    match verdict {
-        Verdict::Accepted => 0,
-        Verdict::BadCount => 1,
-        Verdict::NoSuchSize => 2,
+impl From<Verdict> for u32 {
+    ghost from_gives = { λ verdict number. number ≡ number_of verdict };
+
+    fn from(verdict: Verdict) -> u32 {
+        match verdict {
+            Verdict::Accepted => 0,
+            Verdict::BadCount => 1,
+            Verdict::NoSuchSize => 2,
+        }
     }
 }
 
 // A number for each class of CHK, 0 where it doesn't trap.
-pub fn class(check: Check) -> u32
-    ensures { result ≡ class_of check }
-{
-    match check {
-        Check::Pass => 0,
-        Check::Over => 1,
-        Check::Short => 2,
-        Check::Below => 3,
+impl From<Check> for u32 {
+    ghost from_gives = { λ check class. class ≡ class_of check };
+
+    fn from(check: Check) -> u32 {
+        match check {
+            Check::Pass => 0,
+            Check::Over => 1,
+            Check::Short => 2,
+            Check::Below => 3,
+        }
     }
 }
 
 // A size in numbers: all its bits, and the highest.
-#[derive(Clone, Copy)]
+#[derive(Clone, Copy, PartialEq, Eq)]
 pub struct Width {
     pub mask: u32,
     pub top: u32,
@@ -137,13 +141,6 @@ pub fn top(size: Size, x: u32) -> bool
     x & w.top != 0
 }
 
-// A flag as a number.
-pub fn digit(flag: bool) -> u32
-    ensures { result ≡ digit flag }
-{
-    if flag { 1 } else { 0 }
-}
-
 // N and Z of the result; X, V and C as given.
 pub fn result_flags(size: Size, res: u32, x: bool, v: bool, c: bool) -> Flags
     ensures { result ≡ result_flags (bits_of size) res x v c }
@@ -154,15 +151,17 @@ pub fn result_flags(size: Size, res: u32, x: bool, v: bool, c: bool) -> Flags
 }
 
 // The flags of a packed byte, as the 68000 packs them; its bits above X don't count.
-pub fn flags_of(ccr: u8) -> Flags
-    ensures { result ≡ flags_of ccr }
-{
-    Flags {
-        x: ccr / 16 % 2 == 1,
-        n: ccr / 8 % 2 == 1,
-        z: ccr / 4 % 2 == 1,
-        v: ccr / 2 % 2 == 1,
-        c: ccr % 2 == 1,
+impl From<u8> for Flags {
+    ghost from_gives = { λ ccr flags. flags ≡ flags_of ccr };
+
+    fn from(ccr: u8) -> Flags {
+        Flags {
+            x: ccr / 16 % 2 == 1,
+            n: ccr / 8 % 2 == 1,
+            z: ccr / 4 % 2 == 1,
+            v: ccr / 2 % 2 == 1,
+            c: ccr % 2 == 1,
+        }
     }
 }
 
@@ -174,10 +173,12 @@ fn weigh(flag: bool, weight: u8) -> u8
 }
 
 // The flags as a packed byte.
-pub fn ccr(f: Flags) -> u8
-    ensures { result ≡ ccr_of f }
-{
-    weigh(f.x, 16) + weigh(f.n, 8) + weigh(f.z, 4) + weigh(f.v, 2) + weigh(f.c, 1)
+impl From<Flags> for u8 {
+    ghost from_gives = { λ f ccr. ccr ≡ ccr_of f };
+
+    fn from(f: Flags) -> u8 {
+        weigh(f.x, 16) + weigh(f.n, 8) + weigh(f.z, 4) + weigh(f.v, 2) + weigh(f.c, 1)
+    }
 }
 
 // An accepted answer. Here and in `refused` the flags go over one by one: a `Flags` that is moved
