@@ -7,7 +7,7 @@ ghost use Rattle.step.specs.Lent.{performed, held, ran_in};
 use super::forms::Step;
 use super::registers::State;
 use super::runs::{
-    Left, Ran, SLOTS, advance, all_done, begin, left_off, nowhere, place_before, ran_of, stop_at,
+    Left, Ran, SLOTS, advance, all_done, begin, left_off, nowhere, ran_of, stop_at,
 };
 use super::steps::{Outcome, perform};
 use alu::types::Flags;
@@ -52,7 +52,7 @@ pub fn run_in(
     let line = if all_done(on) {
         0
     } else {
-        fetch(listing, place_before(on.next), nowhere()).line
+        fetch(listing, on.next.saturating_sub(1), nowhere()).line
     };
     left_off(len, start, on, line)
 }
@@ -95,13 +95,10 @@ pub(crate) fn run_one(step: Step, d: &mut [u32; 8], a: &mut [u32; 8], flags: Fla
 pub fn fetch(listing: &[Step], at: usize, other: Step) -> Step
     ensures { result ≡ slice_index_or listing.now at other }
 {
-    if at < listing.len() {
-        return listing[at];
-    }
-    other
+    listing.get(at).copied().unwrap_or(other)
 }
 
-// A step is written to a place of a listing; past the end, nothing is.
+// A step is written to a place of a listing; past the end, nothing is. By index: what stands behind a `get_mut` that is over, no proof knows.
 pub fn store(listing: &mut [Step], at: usize, step: Step)
     ensures { listing.new ≡ slice_set listing.old at step }
 {

@@ -1,5 +1,5 @@
 // A rack of boxes: one listing on a row of register sets that is lent.
-ghost use Rattle.std.specs.Prelude.{◌≡◌};
+ghost use Rattle.std.specs.Prelude.{◌≡◌, Err};
 ghost use Rattle.step.specs.Perform.{perform_of};
 ghost use Rattle.step.specs.Rack.{fit_number, plan_of, left, rack_of};
 
@@ -20,59 +20,43 @@ pub struct Boxed {
     pub clocks: u64,
 }
 
-// Whether a rack is run: more than `BOXES_MAX` sets, or fewer start places or slots than sets, are too many.
-#[derive(Clone, Copy)]
-pub enum Fit {
-    Fits,
-    TooMany,
-}
+// Why a rack is not run: it has more than `BOXES_MAX` sets, or fewer start places or slots than sets.
+#[derive(Clone, Copy, Debug, PartialEq, Eq)]
+pub struct TooManyBoxes;
 
-// How a rack fits, and how many boxes are run.
-#[derive(Clone, Copy)]
-pub struct Racked {
-    pub fit: Fit,
-    pub boxes: usize,
-}
+// Document 02's number of a refusal.
+impl From<TooManyBoxes> for u8 {
+    ghost from_gives = { λ refusal number. number ≡ fit_number (Err refusal) };
 
-// Document 02's number of a refusal; 0 if there is none.
-pub fn number(fit: Fit) -> u8
-    ensures { result ≡ fit_number fit }
-{
-    match fit {
-        Fit::Fits => 0,
-        Fit::TooMany => 15,
+    fn from(_refusal: TooManyBoxes) -> u8 {
+        15
     }
 }
 
-// Of rows of so many sets, start places and slots. A refused rack runs no box.
-pub fn plan(sets: usize, starts: usize, answers: usize) -> Racked
+// How many boxes are run, of rows of so many sets, start places and slots.
+pub fn plan(sets: usize, starts: usize, answers: usize) -> Result<usize, TooManyBoxes>
     ensures { result ≡ plan_of sets starts answers }
 {
-    if (sets <= BOXES_MAX) & (sets <= starts) & (sets <= answers) {
-        return Racked {
-            fit: Fit::Fits,
-            boxes: sets,
-        };
-    }
-    Racked {
-        fit: Fit::TooMany,
-        boxes: 0,
+    if sets <= BOXES_MAX && sets <= starts && sets <= answers {
+        Ok(sets)
+    } else {
+        Err(TooManyBoxes)
     }
 }
 
 // Each set is run from its own start place with the whole budget, and changed there; what the run says goes to its slot.
+// A refused rack runs no box, and changes nothing.
 pub fn rack(
     listing: &[Step],
     sets: &mut [State],
     starts: &[usize],
     budget: u32,
     answers: &mut [Boxed],
-) -> Racked
+) -> Result<usize, TooManyBoxes>
     ensures { left result sets.new answers.new ≡ rack_of perform_of listing.now sets.old starts.now budget answers.old }
 {
-    let racked = plan(sets.len(), starts.len(), answers.len());
-    let mut i = 0;
-    while i < racked.boxes {
+    let boxes = plan(sets.len(), starts.len(), answers.len())?;
+    for i in 0..boxes {
         let ran = run(listing, sets[i], starts[i], budget);
         sets[i] = ran.state;
         answers[i] = Boxed {
@@ -81,7 +65,6 @@ pub fn rack(
             steps: ran.steps,
             clocks: ran.clocks,
         };
-        i += 1;
     }
-    racked
+    Ok(boxes)
 }

@@ -24,15 +24,14 @@ pub struct State {
 pub(crate) fn read(registers: &[u32], r: u8) -> u32
     ensures { result ≡ slice_index registers.now r }
 {
-    let i = r as usize;
-    if i < registers.len() { registers[i] } else { 0 }
+    registers.get(usize::from(r)).copied().unwrap_or(0)
 }
 
 // A register is written; nothing for a number past the end.
 pub(crate) fn write(registers: &mut [u32], r: u8, value: u32)
     ensures { registers.new ≡ slice_set registers.old r value }
 {
-    let i = r as usize;
+    let i = usize::from(r);
     if i < registers.len() {
         registers[i] = value;
     }
