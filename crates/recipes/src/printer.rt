@@ -8,7 +8,7 @@ ghost use Rattle.recipes.specs.Printer.{operation_text, size_text, register_text
 ghost use Rattle.recipes.specs.Printer.{listing_text, refusal_text};
 
 use super::translator::clocks;
-use super::types::{Refused, number};
+use super::types::Refused;
 use alu::types::Size;
 use step::forms::{Count, Form, Register, Step, operation_of};
 use step::runs::{SLOTS, lesser};
@@ -179,8 +179,7 @@ pub fn print(width: u8, steps: [Step; SLOTS], count: usize, out: &mut [u8]) -> u
 pub fn print_refusal(refused: Refused, out: &mut [u8]) -> usize
     ensures { written out.new result ≡ writing out.old 0 (refusal_text refused) }
 {
-    let refusal = refused.refusal;
-    let n = number(refusal);
+    let n = u8::from(refused.refusal);
     let next = put_head(out, b"refused", n as u64, refused.line as u64);
     let next = put_number(out, next, TAB, refused.column as u64);
     put_byte(out, next, NEWLINE)

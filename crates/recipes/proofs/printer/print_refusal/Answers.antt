@@ -7,5 +7,5 @@ use Rattle.recipes.proofs.printer.print_refusal.Goals as goal
 pub returns : goal.returns
 unfolding refusal_text
 returns c =
-    rw (← c.number-n.ensures)
+    rw (← c.from-n.ensures)
     (simp append_assoc at (then _ _ _ _ c.put_head-next.ensures (then _ _ _ _ c.put_number-next.ensures c.put_byte.ensures)))

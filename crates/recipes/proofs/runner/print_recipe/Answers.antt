@@ -1,12 +1,11 @@
 -- `recipes::runner::print_recipe` meets its contract: a listing or a refusal. Assumes nothing.
-use mathlib.Core.Path.{sym, ◌∙◌}
 use Rattle.recipes.specs.Printer.{printed_of}
 use Rattle.recipes.proofs.runner.print_recipe.Goals as goal
 
-pub returns-then-is_nothing : goal.returns-then-is_nothing
+pub returns-in-Ok : goal.returns-in-Ok
 unfolding printed_of
-returns-then-is_nothing c = rw (← c.translate_array-made.ensures, sym c.is_nothing.ensures ∙ c.if-is_nothing.true) c.print.ensures
+returns-in-Ok c = rw (← c.translate_array.ensures, c.in-Ok.is) c.print.ensures
 
-pub returns-else-is_nothing : goal.returns-else-is_nothing
+pub returns-in-Err : goal.returns-in-Err
 unfolding printed_of
-returns-else-is_nothing c = rw (← c.translate_array-made.ensures, sym c.is_nothing.ensures ∙ c.if-is_nothing.false) c.print_refusal.ensures
+returns-in-Err c = rw (← c.translate_array.ensures, c.in-Err.is) c.print_refusal.ensures
