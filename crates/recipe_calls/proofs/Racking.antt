@@ -13,7 +13,7 @@ use lib.ListN.{length, take, drop, get_or, set, length-append, length-drop, leng
 use Rattle.std.specs.Prelude.{Ok, Err, IsOk}
 use Rattle.std.specs.Result.{result_unwrap_or}
 use Rattle.std.specs.List.{flat_map}
-use Rattle.std.proofs.lemmas.List.{take_more, flat_map_more}
+use Rattle.std.proofs.lemmas.Grind.{common_steps}
 use lib.Seq.{take_all, length-take-le, take-append_seam, drop-append_seam, drop-append-add, drop-drop, take_at, paste}
 use Rattle.alu.specs.ConditionCodes.{ccr_of}
 use Rattle.step.specs.declared.registers.State.{State}
@@ -30,7 +30,7 @@ use Rattle.step.proofs.Boxes.{Within, plan_fits, plan_fitting, plan_within, firs
 use Rattle.step.proofs.Kept.{AsMany, step_kept, run_kept}
 use Rattle.recipe_calls.specs.Words.{first_of}
 use Rattle.recipe_calls.specs.Calls.{StateLeft, state_of, state_left, ran_told, ran_left, run_words, sets_of, rack_left, rack_told, rack_by, rack_words}
-use Rattle.recipe_calls.specs.Boxes.{eight_at, box_state, BoxPut}
+use Rattle.recipe_calls.specs.Boxes.{eight_at, eight_put, box_state, BoxPut}
 
 -- ---- the register sets
 
@@ -50,7 +50,7 @@ sets_at d a (f ∷ flags) (suc i) s h =
 -- ---- a row that is filled box by box
 
 filled_more : (g : Ran → List ℕ) (rs : List Ran) (i : ℕ) (d : Ran) → i < length rs → flat_map g (take (i + 1) rs) ≡ flat_map g (take i rs) ++ g (get_or rs i d)
-filled_more g rs i d h = rw (take_more rs i d h) (sym (flat_map_more g [] (take i rs) (get_or rs i d)))
+filled_more g rs i d h = grind (arith, common_steps)
 
 pub record Filled (g : Ran → List ℕ) (rs : List Ran) (old row : List ℕ) (i : ℕ) : Type 0 where
   pub is : row ≡ over (flat_map g (take i rs)) old
@@ -75,21 +75,17 @@ over_eight new old words k e h =
 
 module _ (g : Ran → List ℕ) (rs : List Ran) (old row : List ℕ) (i : ℕ) (f : Filled g rs old row i) where
   pub filled_rest : eight_at i row ≡ eight_at i old
-  filled_rest =
-      let new = flat_map g (take i rs) in
-      ap (take 8) (ap₂ drop (sym f.many) f.is ∙ (drop-append_seam new (drop (length new) old) ∙ ap (λ (k : ℕ). drop k old) f.many))
+  filled_rest = grind (arith, common_steps)
 
-  pub filled_next : (d : Ran) (words : List ℕ) → i < length rs → words ≡ g (get_or rs i d) → length words ≡ 8 → Filled g rs old (paste row (8 * i) words 8) (i + 1)
-  filled_next d words h e m =
-      let new = flat_map g (take i rs) in
-      let longer : new ++ words ≡ flat_map g (take (i + 1) rs) = ap (λ (xs : List ℕ). new ++ xs) e ∙ sym (filled_more g rs i d h) in
-      record {
-        is = ap (λ (r : List ℕ). paste r (8 * i) words 8) f.is ∙ (over_eight new old words (8 * i) f.many m ∙ ap (λ (xs : List ℕ). over xs old) longer);
-        many = sym (ap length longer) ∙ (length-append new words ∙ omega (arith, f.many, m));
-      }
+  pub filled_next :
+      (d : Ran) (words row' : List ℕ) → i < length rs → words ≡ g (get_or rs i d) → length words ≡ 8 → row' ≡ eight_put i words row → Filled g rs old row' (i + 1)
+  filled_next d words row' h e m put =
+      let more = filled_more g rs i d h in
+      let written = over_eight (flat_map g (take i rs)) old words (8 * i) f.many m in
+      record { is = rw (put, f.is, written, e, more); many = grind (arith, common_steps) }
 
   pub filled_all : i ≡ length rs → row ≡ over (flat_map g rs) old
-  filled_all e = f.is ∙ ap (λ (xs : List Ran). over (flat_map g xs) old) (take_all i rs (omega (arith, e)))
+  filled_all e = grind (arith, common_steps)
 
 -- ---- the rows of a rack, box by box
 
@@ -143,18 +139,15 @@ module _ (l : List Step) (n : ℕ) (d₀ a₀ flags₀ starts : List ℕ) (b : �
 
       -- a box more
       pub after_next : (r : Ran) → r ≡ run_of perform_of l (box_state i d a flags) (get_or starts i 0) b → (d' a' flags' answers' : List ℕ) → BoxPut i r d a flags d' a' flags'
-          → answers' ≡ paste answers (8 * i) (ran_told r) 8 → After d' a' flags' answers' (i + 1)
+          → answers' ≡ eight_put i (ran_told r) answers → After d' a' flags' answers' (i + 1)
       after_next r e d' a' flags' answers' p told =
           let is : r ≡ get_or runs i none = e ∙ (ap (λ (s : State). run_of perform_of l s (get_or starts i 0) b) still ∙ sym (run_at i g)) in
           let inside : i < length runs = omega (arith, g, runs_many) in
           record {
-            of_d = subst⁻¹ (λ (row : List ℕ). Filled (λ r. r.state.d) runs d₀ row (i + 1)) p.is_d
-                (filled_next _ runs d₀ d i t.of_d none r.state.d inside (ap (λ (x : Ran). x.state.d) is) p.many_d);
-            of_a = subst⁻¹ (λ (row : List ℕ). Filled (λ r. r.state.a) runs a₀ row (i + 1)) p.is_a
-                (filled_next _ runs a₀ a i t.of_a none r.state.a inside (ap (λ (x : Ran). x.state.a) is) p.many_a);
+            of_d = filled_next _ runs d₀ d i t.of_d none r.state.d d' inside (ap (λ (x : Ran). x.state.d) is) p.many_d p.is_d;
+            of_a = filled_next _ runs a₀ a i t.of_a none r.state.a a' inside (ap (λ (x : Ran). x.state.a) is) p.many_a p.is_a;
             of_flags = p.is_flags ∙ (ap₂ (λ (row : List ℕ) (x : Ran). set row i (ccr_left x)) t.of_flags is ∙ over_put ccr_left flags₀ runs i none inside (omega (arith, g, sets)));
-            of_answers = subst⁻¹ (λ (row : List ℕ). Filled ran_told runs answers₀ row (i + 1)) told
-                (filled_next ran_told runs answers₀ answers i t.of_answers none (ran_told r) inside (ap ran_told is) (told_many r.end _));
+            of_answers = filled_next ran_told runs answers₀ answers i t.of_answers none (ran_told r) answers' inside (ap ran_told is) (told_many r.end _) told;
           }
 
 -- ---- the whole rack, by its plan

@@ -1,17 +1,16 @@
 -- `rack_run` meets its contract: a turn of the loop runs one box (`After` of Racking). Assumes nothing.
 use mathlib.Core.Path.{◌≡◌, ap, ◌∙◌}
-use Prim.Native.Nat.{ℕ, ◌*◌, ◌/◌, ◌<◌, min}
+use Prim.Native.Nat.{ℕ, ◌/◌, ◌<◌, min}
 use mathlib.Core.List.{List}
 use native.Mathlib.Omega.{arith}
 use lib.ListN.{length, get_or}
-use lib.Seq.{paste}
 use Rattle.step.specs.declared.forms.Step.{Step}
 use Rattle.step.specs.Perform.{perform_of}
 use Rattle.step.specs.Run.{run_of}
 use Rattle.step.specs.Rack.{boxes_of, plan_of}
 use Rattle.recipe_calls.specs.Words.{first_of}
 use Rattle.recipe_calls.specs.Calls.{rack_left, rack_by}
-use Rattle.recipe_calls.specs.Boxes.{box_state}
+use Rattle.recipe_calls.specs.Boxes.{box_state, eight_put}
 use Rattle.recipe_calls.proofs.Racking.{boxes_are, within_planned, after_next, after_all}
 use Rattle.recipe_calls.proofs.rack_run.Goals as goal
 
@@ -24,7 +23,7 @@ loop-i-preserved c =
     let inside : l.i < boxes_of p = omega (arith, boxes_are p) in
     let ran = c.run_box-ran.ensures.0
     ∙ ap (λ (k : List Step). run_of perform_of k (box_state l.i l.d l.a l.flags) (get_or a.starts.now l.i 0) a.budget) (c.steps-steps.ensures ∙ c.listing_of-made.ensures) in
-    let told = c.put_eight.ensures ∙ ap (λ (w : List ℕ). paste l.answers (8 * l.i) w 8) c.ran_told.ensures in
+    let told = c.put_eight.ensures ∙ ap (λ (w : List ℕ). eight_put l.i w l.answers) c.ran_told.ensures in
     after_next (first_of a.listing.now) (boxes_of p) a.d.now a.a.now a.flags.now a.starts.now a.budget a.answers.now within.sets within.starts
     l.d l.a l.flags l.answers l.i inside l.invariant c.run_box-ran.result ran _ _ _ _ c.run_box-ran.ensures.1 told
 
