@@ -10,15 +10,15 @@ use mathlib.Core.List.{List, [], ◌∷◌}
 use contract.Lifetimes.{Lfts}
 use Rattle.alu.proofs.types.U32FromVerdict.from.Reads as u32-from-verdict
 use Rattle.alu.proofs.types.U32FromCheck.from.Reads as u32-from-check
-use Rattle.alu.proofs.types.width_of.Reads as width_of_lem
-use Rattle.alu.proofs.types.masked.Reads as masked
-use Rattle.alu.proofs.types.top.Reads as top
+use Rattle.alu.proofs.types.Size.width.Reads as width
+use Rattle.alu.proofs.types.Size.masked.Reads as masked
+use Rattle.alu.proofs.types.Size.top.Reads as top
 use Rattle.alu.proofs.types.result_flags.Reads as result-flags
 use Rattle.alu.proofs.types.FlagsFromU8.from.Reads as flags-from-u8
 use Rattle.alu.proofs.types.U8FromFlags.from.Reads as u8-from-flags
-use Rattle.alu.proofs.types.accepted.Reads as accepted
-use Rattle.alu.proofs.types.refused.Reads as refused
-use Rattle.alu.proofs.types.figure.Reads as figure
+use Rattle.alu.proofs.types.Answer.accepted.Reads as accepted
+use Rattle.alu.proofs.types.Answer.refused.Reads as refused
+use Rattle.alu.proofs.types.Size.figure.Reads as figure
 use Rattle.alu.proofs.integer_arith.exec_add.Reads as exec-add
 use Rattle.alu.proofs.integer_arith.exec_adda.Reads as exec-adda
 use Rattle.alu.proofs.integer_arith.exec_addq.Reads as exec-addq
@@ -70,7 +70,7 @@ pub determined : List Fixed
 determined =
     fixed u32-from-verdict.Learnt (one_equation _) ∷
     fixed u32-from-check.Learnt (one_equation _) ∷
-    fixed width_of_lem.Learnt (one_equation _) ∷
+    fixed width.Learnt (one_equation _) ∷
     fixed masked.Learnt (one_equation _) ∷
     fixed top.Learnt (one_equation _) ∷
     fixed result-flags.Learnt (one_equation _) ∷

@@ -15,7 +15,7 @@ use alu::integer_arith::{
 use alu::shift_rotate::{
     exec_asl, exec_asr, exec_lsl, exec_lsr, exec_rol, exec_ror, exec_roxl, exec_roxr,
 };
-use alu::types::{Answer, Checked, Flags, Size, Verdict, refused};
+use alu::types::{Answer, Checked, Flags, Size, Verdict};
 
 // A size by its number, if it names one. One `match` with a default of its own: the compiler then sees that a size and its number are the same.
 fn size_of(number: u8) -> Option<Size>
@@ -85,7 +85,7 @@ fn answer(op: u8, size: Size, src: u32, dst: u32, ccr: u8) -> u64
         0x1b => pack(exec_bclr(size, src, dst, Flags::from(ccr))),
         0x1c => pack(exec_bchg(size, src, dst, Flags::from(ccr))),
         0x1d => pack_checked(exec_chk(size, src, dst, Flags::from(ccr))),
-        _ => pack(refused(Verdict::NoSuchSize, Flags::from(ccr))),
+        _ => pack(Answer::refused(Verdict::NoSuchSize, Flags::from(ccr))),
     }
 }
 
@@ -94,7 +94,7 @@ pub fn alu_call(op: u8, size: u8, src: u32, dst: u32, ccr: u8) -> u64
     ensures { result ≡ call_of op size src dst ccr }
 {
     let Some(sized) = size_of(size) else {
-        return pack(refused(Verdict::NoSuchSize, Flags::from(ccr)));
+        return pack(Answer::refused(Verdict::NoSuchSize, Flags::from(ccr)));
     };
     answer(op, sized, src, dst, ccr)
 }

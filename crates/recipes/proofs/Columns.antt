@@ -15,7 +15,7 @@ use Rattle.recipes.specs.declared.types.Verb.{Verb}
 use Rattle.recipes.specs.declared.types.Line.{Line}
 use Rattle.recipes.specs.declared.types.Recipe.{Recipe}
 use Rattle.recipes.specs.declared.types.Refusal.{Refusal}
-use Rattle.recipes.specs.declared.types.Refusal.TheVariants.{WidthLine, NoSuchNumber, OntoItself, TooManyLines, WrongFields, NotADigit, NoNewline}
+use Rattle.recipes.specs.declared.types.Refusal.TheVariants.{WidthLine, TooManyLines, WrongFields, NotADigit, NoNewline}
 use Rattle.recipes.specs.declared.types.Refused.{Refused}
 use Rattle.recipes.specs.declared.reader.Slip.{Slip}
 use Rattle.text.specs.Text.{before, after, parts, digit_of}

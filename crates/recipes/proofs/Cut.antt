@@ -6,14 +6,14 @@
 --     cut_reads      they are read as the text is, unless they are refused with 14; cut_answers: and answered
 --     cut_slips      where they are, the text is refused with one of 11 to 14
 use Prim.Native.Nat.{ℕ, ◌+◌, ◌*◌, ◌/◌, ◌≤◌, ◌<◌}
-use mathlib.Core.Bool.{Bool, true, false, cond, and-false, false≢true}
+use mathlib.Core.Bool.{Bool, true, false, cond, false≢true}
 use mathlib.Core.List.{List, [], ◌∷◌, ◌++◌, append-nil}
 use mathlib.Core.Logic.{◌⊎◌, inl, inr, ⊎_elim}
 use mathlib.Core.Path.{◌≡◌, refl, sym, ap, ap₂, ◌∙◌, subst, subst⁻¹}
 use native.Mathlib.Decide.{dec_le}
-use native.Mathlib.Nat.{not-suc-le-zero, le_of_suc-le-suc, eq-or-lt_of_le}
+use native.Mathlib.Nat.{eq-or-lt_of_le}
 use native.Mathlib.Omega.{arith}
-use borrow.Author.Tests.{eq-eqb, ne_eqb, eqb-false}
+use borrow.Author.Tests.{eq-eqb, ne_eqb}
 use lib.Dec.{eqb, leb, ltb}
 use lib.ListN.{length, take, drop, length-append, length-take, take-append-drop}
 use lib.Seq.{take_all}
@@ -25,7 +25,7 @@ use Rattle.recipes.specs.declared.types.Refused.{Refused}
 use Rattle.recipes.specs.declared.types.Refusal.{Refusal}
 use Rattle.recipes.specs.declared.types.Refusal.TheVariants.{WidthLine, TooManyLines, NoNewline}
 use Rattle.recipes.specs.declared.reader.Slip.{Slip}
-use Rattle.text.specs.Text.{ascii, same_bytes, before, after, digit_of}
+use Rattle.text.specs.Text.{ascii, before, after, digit_of}
 use Rattle.recipes.specs.Recipe.{lines_max, number_of, at_column, takes_two}
 use Rattle.recipes.specs.Reader.{refused_at, verb_of, past, only_digit, with_two, one_field, two_fields, fields_of, then_checked, line_of, or_slip, lines_of, width_line, with_width, from_first, read_of}
 use Rattle.recipes.specs.Printer.{text_max, reading_printed, answer_of}

@@ -17,7 +17,7 @@ use native.Mathlib.Omega.{arith}
 use native.Mathlib.Nat.{add-zero, zero-add, add_assoc}
 use lib.ListN.{length, set, take, drop, length-append, get_or}
 use lib.Seq.{take-append_seam}
-use Rattle.std.specs.Prelude.{Option, Some, Result, Ok, IsOk, is_ok}
+use Rattle.std.specs.Prelude.{Option, Some, Result, Ok, is_ok}
 use Rattle.alu.specs.declared.types.Flags.{Flags}
 use Rattle.step.specs.declared.registers.State.{State}
 use Rattle.step.specs.declared.forms.Step.{Step}
@@ -39,7 +39,6 @@ use Rattle.recipes.specs.declared.types.Line.{Line}
 use Rattle.recipes.specs.declared.types.Recipe.{Recipe}
 use Rattle.recipes.specs.declared.types.Refused.{Refused}
 use Rattle.recipes.specs.Recipe.{is_width, target, recipe_lines, Names, Accepted}
-use Rattle.recipes.specs.Reader.{read_of}
 use Rattle.step.specs.Lent.{over}
 use Rattle.recipes.specs.Listing.{steps_max, line_steps, listing_of, numbered_of, steps_at, steps_of, Translated, translated, translate_of, clocks_of, blank}
 use Rattle.recipes.specs.Rule.{numbers_of, registers_of, codes_of, Account, account_of, rule_of, rules_of}

@@ -27,6 +27,7 @@ use Rattle.recipes.specs.Printer.{step_text, listing_text, refusal_text, printed
 use Rattle.recipes.specs.Demand.{text_run_of}
 use Rattle.recipes.proofs.types.U8FromRefusal.from.Reads as u8-from-refusal
 use Rattle.recipes.proofs.types.at_line.Reads as at-line
+use Rattle.recipes.proofs.types.RecipeDefault.default.Reads as recipe-default
 use Rattle.recipes.proofs.lines.target.Reads as target
 use Rattle.recipes.proofs.translator.translate_array.Reads as translate-array
 use Rattle.recipes.proofs.runner.run_recipe.Reads as run-recipe
@@ -41,7 +42,7 @@ use Rattle.recipes.specs.contracts.runner.run_text as run-text
 
 pub determined : List Fixed
 determined =
-    fixed u8-from-refusal.Learnt (one_equation _) ∷ fixed at-line.Learnt (one_equation _) ∷ fixed target.Learnt (one_equation _) ∷ fixed translate-array.Learnt (one_equation _) ∷ fixed run-recipe.Learnt (one_equation _) ∷ []
+    fixed u8-from-refusal.Learnt (one_equation _) ∷ fixed at-line.Learnt (one_equation _) ∷ fixed recipe-default.Learnt (one_equation _) ∷ fixed target.Learnt (one_equation _) ∷ fixed translate-array.Learnt (one_equation _) ∷ fixed run-recipe.Learnt (one_equation _) ∷ []
 
 abbrev told_in : Translated → Result ℕ Refused
 told_in t = t.told

@@ -1,13 +1,7 @@
 -- What a digit that is asked for by `ok_or` gives a line, and the exit of a `?` that hands an error on. Assumes nothing.
-use Prim.Native.Nat.{ℕ}
-use mathlib.Core.Path.{◌≡◌, refl, sym, ap, ◌∙◌}
+use mathlib.Core.Path.{◌≡◌, refl, ap}
 use Rattle.std.specs.Prelude.{Option, Some, None, Result, Ok, Err, IsErrAnd}
 use Rattle.std.specs.Option.{ok_or}
-use Rattle.recipes.specs.declared.types.Verb.{Verb}
-use Rattle.recipes.specs.declared.types.Line.{Line}
-use Rattle.recipes.specs.declared.types.Refusal.TheVariants.{NotADigit}
-use Rattle.recipes.specs.declared.reader.Slip.{Slip}
-use Rattle.recipes.specs.Reader.{slip, with_one, with_two}
 
 -- the error of a `?` is the one that came
 pub handed_on : {T E : Type 0} (r : Result T E) (e : E) → IsErrAnd r (λ x. x ≡ e) → r ≡ Err e

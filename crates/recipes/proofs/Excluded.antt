@@ -6,7 +6,7 @@
 --     made_up_count    a made-up step count: it is the next place less the start place
 --     carry_dropped    a carry dropped between two words: ADD where ADDX should be, from every start whose low words carry
 use mathlib.Core.Path.{◌≡◌, refl, sym, ap, ap₂, ◌∙◌}
-use mathlib.Core.Bool.{true, false, true≢false}
+use mathlib.Core.Bool.{false, true≢false}
 use mathlib.Core.List.{List, [], ◌∷◌}
 use Prim.Native.Nat.{ℕ, suc, ◌+◌, ◌-◌, ◌*◌, ◌%◌, ◌^◌, ◌≤◌, ◌<◌}
 use mathlib.Core.Logic.{◌⊎◌, inl, inr}
@@ -15,7 +15,7 @@ use native.Mathlib.Omega.{arith}
 use native.Mathlib.Decide.{dec_lt}
 use lib.Dec.{lit<}
 use lib.ListN.{get_or, replicate}
-use Rattle.std.specs.Prelude.{Result, Ok, Err, is_ok, is_err, IsOk, IsErr}
+use Rattle.std.specs.Prelude.{Result, Ok, Err, is_ok, IsOk, IsErr}
 use Rattle.alu.specs.declared.types.Size.TheVariants.{Byte}
 use Rattle.alu.specs.declared.types.Flags.{Flags}
 use Rattle.alu.specs.declared.types.Answer.{Answer}

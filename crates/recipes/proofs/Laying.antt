@@ -16,7 +16,7 @@ use Rattle.recipes.specs.declared.types.Line.{Line}
 use Rattle.recipes.specs.Recipe.{unused, Names, Accepted}
 use Rattle.recipes.specs.Listing.{line_steps, numbered_of, steps_at, steps_of, blank, blanks}
 use Rattle.recipes.specs.Making.{Layable, Slotted, job_of, job_step, StepOfJob}
-use Rattle.recipes.proofs.Steps.{line_length, numbered_length, numbered_steps, steps_at_most, steps_most, steps_more}
+use Rattle.recipes.proofs.Steps.{line_length, numbered_length, numbered_steps, steps_most, steps_more}
 use Rattle.recipes.proofs.Places.{number_fits, line_at, lined_at}
 
 -- ---- a line
@@ -82,40 +82,40 @@ laid_all w ls steps k at s h = rw (s.placed, take_all k ls h)
 module _ (w : ℕ) (ls : List Line) (steps : List Step) (k at more : ℕ) (a : Layable w ls) (s : Laid w ls steps k at) (h : k < length ls)
     (m : more ≡ steps_at (get_or ls k unused).verb * w)
   where
-  reached_next : at + more ≡ steps_of w (take (suc k) ls)
-  reached_next = let g = steps_more w k ls h in let r = s.reached in omega arith
+    reached_next : at + more ≡ steps_of w (take (suc k) ls)
+    reached_next = let g = steps_more w k ls h in let r = s.reached in omega arith
 
-  -- has slots
-  pub room : at + more ≤ array_slots
-  room =
-      let most = steps_most w (take (suc k) ls) a.small in
-      let some = length-take (suc k) ls in
-      let few = a.few in
-      let is = reached_next in
-      omega arith
+    -- has slots
+    pub room : at + more ≤ array_slots
+    room =
+        let most = steps_most w (take (suc k) ls) a.small in
+        let some = length-take (suc k) ls in
+        let few = a.few in
+        let is = reached_next in
+        omega arith
 
-  pub size : length steps ≡ array_slots
-  size =
-      let front = numbered_steps w 2 (take k ls) in
-      let r = s.reached in
-      let within = room in
-      rw s.placed (over_length (numbered_of w 2 (take k ls)) blanks (omega arith))
+    pub size : length steps ≡ array_slots
+    size =
+        let front = numbered_steps w 2 (take k ls) in
+        let r = s.reached in
+        let within = room in
+        rw s.placed (over_length (numbered_of w 2 (take k ls)) blanks (omega arith))
 
-  pub slotted : Slotted w (get_or ls k unused) (length (take (at + more - at) (drop at steps)))
-  slotted =
-      let within = room in
-      let all = size in
-      record { small = a.small; named = accepted_at w ls k a.named h; all = rw (length-take, length-drop) (omega arith) }
+    pub slotted : Slotted w (get_or ls k unused) (length (take (at + more - at) (drop at steps)))
+    slotted =
+        let within = room in
+        let all = size in
+        record { small = a.small; named = accepted_at w ls k a.named h; all = rw (length-take, length-drop) (omega arith) }
 
-  -- and is laid there
-  pub laid_more : (new : List Step) → new ≡ map (with_line (k + 2)) (line_steps w (get_or ls k unused)) → Laid w ls (put_mid at (at + more - at) steps new) (k + 1) (at + more)
-  laid_more new e =
-      let one : k + 1 ≡ suc k = omega arith in
-      let ks = numbered_of w 2 (take k ls) in
-      let next = map (with_line (k + 2)) (line_steps w (get_or ls k unused)) in
-      let front : length ks ≡ at = numbered_steps w 2 (take k ls) ∙ sym s.reached in
-      let long : length (ks ++ next) ≡ at + more = let n = numbered_length w (k + 2) (get_or ls k unused) in rw length-append (omega arith) in
-      record {
-        placed = rw (one, numbered_more w 2 k ls h, s.placed, e) (over_part ks next blanks at (at + more) front long (omega arith));
-        reached = rw one reached_next;
-      }
+    -- and is laid there
+    pub laid_more : (new : List Step) → new ≡ map (with_line (k + 2)) (line_steps w (get_or ls k unused)) → Laid w ls (put_mid at (at + more - at) steps new) (k + 1) (at + more)
+    laid_more new e =
+        let one : k + 1 ≡ suc k = omega arith in
+        let ks = numbered_of w 2 (take k ls) in
+        let next = map (with_line (k + 2)) (line_steps w (get_or ls k unused)) in
+        let front : length ks ≡ at = numbered_steps w 2 (take k ls) ∙ sym s.reached in
+        let long : length (ks ++ next) ≡ at + more = let n = numbered_length w (k + 2) (get_or ls k unused) in rw length-append (omega arith) in
+        record {
+          placed = rw (one, numbered_more w 2 k ls h, s.placed, e) (over_part ks next blanks at (at + more) front long (omega arith));
+          reached = rw one reached_next;
+        }

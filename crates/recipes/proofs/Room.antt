@@ -1,7 +1,7 @@
 -- How long printed texts are: the program's buffer of `print_max` bytes has room for any of them, whatever steps stand in a listing. Assumes nothing.
 --     answer_short    the program's answer to any text
 use Prim.Native.Nat.{ℕ, suc, ◌+◌, ◌*◌, ◌≤◌}
-use mathlib.Core.Bool.{Bool, true, false, cond}
+use mathlib.Core.Bool.{Bool}
 use mathlib.Core.List.{List, [], ◌∷◌}
 use mathlib.Core.Path.{◌≡◌, refl}
 use native.Mathlib.Omega.{arith}

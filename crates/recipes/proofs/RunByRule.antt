@@ -3,10 +3,9 @@ use mathlib.Core.Path.{◌≡◌, refl, sym, ap, ap₂, ◌∙◌, subst, subst�
 use Rattle.std.specs.Prelude.{Option, Some, Result, Ok, Err, is_ok, slice_get}
 use Rattle.std.proofs.lemmas.Option.{slice_get_within, get_or_from_slice_get}
 use mathlib.Core.List.{List, [], ◌∷◌}
-use Prim.Native.Nat.{ℕ, zero, suc, ◌-◌, ◌<◌, ◌≤◌}
+use Prim.Native.Nat.{ℕ, zero, suc, ◌-◌}
 use native.Mathlib.Omega.{arith}
 use lib.ListN.{length, get_or, take}
-use lib.Seq.{get_or-take, length-take-le}
 use Rattle.alu.specs.declared.types.Flags.{Flags}
 use Rattle.step.specs.declared.registers.State.{State}
 use Rattle.step.specs.declared.forms.Step.{Step}
@@ -22,14 +21,13 @@ use Rattle.recipes.specs.declared.types.Refused.{Refused}
 use Rattle.recipes.specs.declared.types.RecipeRun.{RecipeRun}
 use Rattle.recipes.specs.Recipe.{unused, recipe_lines}
 use Rattle.recipes.specs.Reader.{read_of}
-use Rattle.step.specs.Lent.{over}
 use Rattle.recipes.specs.Listing.{steps_max, Translated, translated, translate_of, listing_in, listed, blanks, array_of}
 use Rattle.recipes.specs.Rule.{codes_of, Account, account_of, rule_of, rules_of}
-use Rattle.recipes.specs.Demand.{EightLongs, Holds, Meets, ran_by_rule, recipe_run_of, reading_ran, text_run_of}
+use Rattle.recipes.specs.Demand.{EightLongs, Holds, Meets, ran_by_rule, recipe_run_of, text_run_of}
 use Rattle.recipes.specs.Making.{codes_behind, codes_after}
 use Rattle.recipes.proofs.Accepting.{Good, width_is, tests_agree}
 use Rattle.recipes.proofs.Settling.{whole_fits, blanks_fit, blanks_count}
-use Rattle.recipes.proofs.Agreeing.{read_sound, good_passes, good_translates, translated_good}
+use Rattle.recipes.proofs.Agreeing.{read_sound, good_passes, translated_good}
 use Rattle.recipes.proofs.Demand.{one_by_one, ruled_registers}
 
 -- ---- what is told of the flags

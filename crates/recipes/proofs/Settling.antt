@@ -5,11 +5,11 @@
 --     blanks_count    a translation in an array has at most `steps_max` steps
 --     blanks_hold     and no more than the array
 use Prim.Native.Nat.{ℕ, ◌≤◌, ◌<◌, min}
-use mathlib.Core.Bool.{Bool, true, false, cond}
+use mathlib.Core.Bool.{cond}
 use mathlib.Core.List.{List, ◌++◌}
 use mathlib.Core.Path.{◌≡◌, refl, sym, ap, ◌∙◌, subst}
 use native.Mathlib.Omega.{arith}
-use borrow.Author.Tests.{le-leb, lt-leb, le-ltb, lt-ltb, ltb-false}
+use borrow.Author.Tests.{le-leb, lt-leb, le-ltb, lt-ltb}
 use native.Mathlib.Decide.{dec_le}
 use lib.Dec.{leb, ltb}
 use lib.ListN.{length, take, drop, length-append, length-take, length-replicate}
@@ -22,11 +22,11 @@ use Rattle.recipes.specs.declared.types.Recipe.{Recipe}
 use Rattle.recipes.specs.declared.types.Refusal.TheVariants.{NoSpace}
 use Rattle.recipes.specs.declared.types.Refused.{Refused}
 use Rattle.recipes.specs.declared.types.Listing.{Listing}
-use Rattle.recipes.specs.Recipe.{lines_max, at_line, recipe_lines, Accepted}
+use Rattle.recipes.specs.Recipe.{lines_max, at_line, recipe_lines}
 use Rattle.step.specs.Lent.{over}
 use Rattle.recipes.specs.Listing.{steps_max, numbered_of, steps_of, Translated, translated, translate_of, listed, listing_in, blanks, array_of}
 use Rattle.recipes.specs.Making.{judge_of, Layable}
-use Rattle.recipes.proofs.Steps.{numbered_steps, numbered_prefix, steps_most}
+use Rattle.recipes.proofs.Steps.{numbered_steps, steps_most}
 use Rattle.recipes.proofs.Accepting.{width_is, tests_agree}
 
 -- a recipe's lines take at most `steps_max` steps

@@ -22,6 +22,10 @@ padded ls = ls ++ replicate (lines_max - length ls) unused
 abbrev pub accepted : (w : ℕ) → List Line → Result Recipe Refused
 accepted w ls = Ok (record { width = w; count = length ls; lines = padded ls })
 
+-- the recipe of a refused text: width 1 and no lines
+abbrev pub no_recipe : Recipe
+no_recipe = record { width = 1; count = 0; lines = padded [] }
+
 -- a refusal with its text line and column
 abbrev pub refused_at : Refusal → (line column : ℕ) → Result Recipe Refused
 refused_at k line column = Err (at_column k line column)

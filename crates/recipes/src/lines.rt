@@ -6,8 +6,9 @@ ghost use Rattle.recipes.specs.Recipe.{way, way_of, goal_of, target, is_width, u
 
 use super::types::{Line, Refusal, Verb};
 use Act::{One, Shift, Two};
-use alu::shift_rotate::ShiftOp;
-use step::forms::{OneOp, TwoOp};
+use alu::shift_rotate::ShiftOp::{self, Asr, Lsl, Lsr, Roxl, Roxr};
+use step::forms::OneOp::{self, Clr, Neg, Negx, Not};
+use step::forms::TwoOp::{self, Add, Addx, Sub, Subx};
 
 // What is done at a register: of the target alone, of source and target, or a shift by 1.
 #[derive(Clone, Copy)]
@@ -59,15 +60,15 @@ pub(crate) fn way_of(verb: Verb) -> Way
     ensures { result ≡ way_of verb }
 {
     match verb {
-        Verb::Clear => row(false, false, One(OneOp::Clr), One(OneOp::Clr), false, false),
-        Verb::Copy => row(true, true, Two(TwoOp::Add), Two(TwoOp::Add), false, false),
-        Verb::Add => row(true, false, Two(TwoOp::Add), Two(TwoOp::Addx), false, true),
-        Verb::Sub => row(true, false, Two(TwoOp::Sub), Two(TwoOp::Subx), false, true),
-        Verb::Neg => row(false, false, One(OneOp::Neg), One(OneOp::Negx), false, true),
-        Verb::Not => row(false, false, One(OneOp::Not), One(OneOp::Not), false, false),
-        Verb::Halve => row(false, false, Shift(ShiftOp::Asr), Shift(ShiftOp::Roxr), true, false),
-        Verb::Down => row(false, false, Shift(ShiftOp::Lsr), Shift(ShiftOp::Roxr), true, false),
-        Verb::Up => row(false, false, Shift(ShiftOp::Lsl), Shift(ShiftOp::Roxl), false, false),
+        Verb::Clear => row(false, false, One(Clr), One(Clr), false, false),
+        Verb::Copy => row(true, true, Two(Add), Two(Add), false, false),
+        Verb::Add => row(true, false, Two(Add), Two(Addx), false, true),
+        Verb::Sub => row(true, false, Two(Sub), Two(Subx), false, true),
+        Verb::Neg => row(false, false, One(Neg), One(Negx), false, true),
+        Verb::Not => row(false, false, One(Not), One(Not), false, false),
+        Verb::Halve => row(false, false, Shift(Asr), Shift(Roxr), true, false),
+        Verb::Down => row(false, false, Shift(Lsr), Shift(Roxr), true, false),
+        Verb::Up => row(false, false, Shift(Lsl), Shift(Roxl), false, false),
     }
 }
 

@@ -1,7 +1,9 @@
 // What a recipe is, its limits, why one is refused, and what its reader, its translator and its run answer.
 ghost use Rattle.std.specs.Prelude.{◌≡◌, take};
 ghost use Rattle.recipes.specs.Recipe.{number_of, at_column, at_line, recipe_lines};
+ghost use Rattle.recipes.specs.Reader.{no_recipe};
 
+use super::lines::unused;
 use alu::types::Flags;
 use step::forms::Step;
 use step::runs::SLOTS;
@@ -54,6 +56,20 @@ impl Recipe {
         ensures { result.now ≡ recipe_lines self.now }
     {
         &self.lines[..self.count.min(LINES_MAX)]
+    }
+}
+
+// Document 01's recipe of a text that is refused: `read(text).unwrap_or_default()` is the recipe that it names.
+impl Default for Recipe {
+    ghost is_default = { λ recipe. recipe ≡ no_recipe };
+
+    fn default() -> Recipe {
+        let lines = [unused(); LINES_MAX];
+        Recipe {
+            width: 1,
+            count: 0,
+            lines,
+        }
     }
 }
 

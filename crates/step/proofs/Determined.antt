@@ -38,6 +38,7 @@ use Rattle.step.proofs.runs.run_array.Reads as run-array
 use Rattle.step.proofs.runs.begun.Reads as begun
 use Rattle.step.proofs.runs.End.line.Reads as end-line
 use Rattle.step.proofs.racks.U8FromTooManyBoxes.from.Reads as u8-from-too-many-boxes
+use Rattle.step.proofs.racks.BoxedFromRan.from.Reads as boxed-from-ran
 use Rattle.step.proofs.racks.plan.Reads as plan
 use Rattle.step.specs.contracts.racks.rack as rack
 use Rattle.step.specs.contracts.lent.perform_in as perform-in
@@ -60,6 +61,7 @@ determined =
     fixed begun.Learnt (one_equation _) ∷
     fixed end-line.Learnt (one_equation _) ∷
     fixed u8-from-too-many-boxes.Learnt (one_equation _) ∷
+    fixed boxed-from-ran.Learnt (one_equation _) ∷
     fixed plan.Learnt (one_equation _) ∷ []
 
 -- `whole r ws`: of the result r and of the last values ws behind all references that the function may write through

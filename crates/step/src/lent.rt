@@ -7,7 +7,7 @@ ghost use Rattle.step.specs.Lent.{performed, held, ran_in};
 use super::forms::Step;
 use super::registers::State;
 use super::runs::{
-    Left, Ran, SLOTS, advance, all_done, begin, left_off, nowhere, ran_of, stop_at,
+    Left, Ran, SLOTS, advance, all_done, begin, left_off, nowhere, place_before, ran_of, stop_at,
 };
 use super::steps::{Outcome, perform};
 use alu::types::Flags;
@@ -32,7 +32,8 @@ pub fn perform_in(state: &mut State, step: Step) -> Told
 }
 
 // A run on registers that are lent, and changed there: the one loop, which every other way of running calls. A trap's or a
-// refusal's line is read behind it; before a start past the end no step stands either, and the line is 0.
+// refusal's line is read behind it; before a start past the end no step stands either, and the line is 0. The two rows stay apart
+// (a `&mut State` for both, tried as steps.rt says: 61.7).
 pub fn run_in(
     listing: &[Step],
     d: &mut [u32; 8],
@@ -52,7 +53,7 @@ pub fn run_in(
     let line = if all_done(on) {
         0
     } else {
-        fetch(listing, on.next.saturating_sub(1), nowhere()).line
+        fetch(listing, place_before(on.next), nowhere()).line
     };
     left_off(len, start, on, line)
 }

@@ -1,12 +1,12 @@
 // A rack of boxes: one listing on a row of register sets that is lent.
 ghost use Rattle.std.specs.Prelude.{◌≡◌, Err};
 ghost use Rattle.step.specs.Perform.{perform_of};
-ghost use Rattle.step.specs.Rack.{fit_number, plan_of, left, rack_of};
+ghost use Rattle.step.specs.Rack.{fit_number, boxed_of, plan_of, left, rack_of};
 
 use super::forms::Step;
 use super::lent::run;
 use super::registers::State;
-use super::runs::End;
+use super::runs::{End, Ran};
 
 // The most boxes of a rack.
 pub const BOXES_MAX: usize = 64;
@@ -18,6 +18,19 @@ pub struct Boxed {
     pub next: usize,
     pub steps: u32,
     pub clocks: u64,
+}
+
+impl From<Ran> for Boxed {
+    ghost from_gives = { λ ran boxed. boxed ≡ boxed_of ran };
+
+    fn from(ran: Ran) -> Boxed {
+        Boxed {
+            end: ran.end,
+            next: ran.next,
+            steps: ran.steps,
+            clocks: ran.clocks,
+        }
+    }
 }
 
 // Why a rack is not run: it has more than `BOXES_MAX` sets, or fewer start places or slots than sets.
@@ -55,16 +68,12 @@ pub fn rack(
 ) -> Result<usize, TooManyBoxes>
     ensures { left result sets.new answers.new ≡ rack_of perform_of listing.now sets.old starts.now budget answers.old }
 {
+    // By index: what stands behind an `iter_mut` that is over, no proof knows.
     let boxes = plan(sets.len(), starts.len(), answers.len())?;
     for i in 0..boxes {
         let ran = run(listing, sets[i], starts[i], budget);
         sets[i] = ran.state;
-        answers[i] = Boxed {
-            end: ran.end,
-            next: ran.next,
-            steps: ran.steps,
-            clocks: ran.clocks,
-        };
+        answers[i] = Boxed::from(ran);
     }
     Ok(boxes)
 }

@@ -2,7 +2,7 @@
 ghost use Rattle.std.specs.Prelude.{◌≡◌, slice_index, slice_set};
 ghost use Rattle.step.specs.Registers.{merged_of};
 
-use alu::types::{Flags, Size, width_of};
+use alu::types::{Flags, Size};
 
 // The number of a data register.
 #[derive(Clone, Copy)]
@@ -27,7 +27,7 @@ pub(crate) fn read(registers: &[u32], r: u8) -> u32
     registers.get(usize::from(r)).copied().unwrap_or(0)
 }
 
-// A register is written; nothing for a number past the end.
+// A register is written; nothing for a number past the end. By index, as `store` of lent.
 pub(crate) fn write(registers: &mut [u32], r: u8, value: u32)
     ensures { registers.new ≡ slice_set registers.old r value }
 {
@@ -41,7 +41,7 @@ pub(crate) fn write(registers: &mut [u32], r: u8, value: u32)
 pub(crate) fn merged(size: Size, old: u32, value: u32) -> u32
     ensures { result ≡ merged_of size old value }
 {
-    let w = width_of(size);
+    let w = size.width();
     let low = w.mask;
     old & !low | value & low
 }

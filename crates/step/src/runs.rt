@@ -1,5 +1,5 @@
 // A run of a listing of steps with a budget.
-ghost use Rattle.std.specs.Prelude.{◌≡◌, take};
+ghost use Rattle.std.specs.Prelude.{◌≡◌, ◌-◌, take};
 ghost use Rattle.step.specs.Perform.{perform_of};
 ghost use Rattle.step.specs.declared.runs.End.TheVariants as End;
 ghost use Rattle.step.specs.Run.{ends, end_line, run_of, resumed_of};
@@ -9,7 +9,7 @@ ghost use Rattle.step.specs.Course.{came_out, is_done, course_of, stop_of, begin
 use super::forms::{Form, Step};
 use super::lent::{run, run_first};
 use super::registers::{D, State};
-use super::steps::{Came, Fault, Outcome, Trap, outcome_of, perform_on};
+use super::steps::{Came, Fault, Outcome, Trap, perform_on};
 use alu::types::{Flags, Size};
 
 // The slots of a listing that stands in an array.
@@ -68,7 +68,7 @@ pub(crate) struct Course {
     pub flags: Flags,
 }
 
-// Where a run stands. The flags go over one by one, as in alu::types::accepted.
+// Where a run stands. The flags go over one by one, as in `said` of steps.
 fn stands(going: bool, came: Came, next: usize, clocks: u64, flags: Flags) -> Course
     ensures { result ≡ course_of going came next clocks flags }
 {
@@ -77,13 +77,7 @@ fn stands(going: bool, came: Came, next: usize, clocks: u64, flags: Flags) -> Co
         came,
         next,
         clocks,
-        flags: Flags {
-            x: flags.x,
-            n: flags.n,
-            z: flags.z,
-            v: flags.v,
-            c: flags.c,
-        },
+        flags: Flags { ..flags },
     }
 }
 
@@ -126,7 +120,7 @@ pub(crate) fn begin(len: usize, start: usize, stop: usize, flags: Flags) -> Cour
 }
 
 // One step of a run that goes on. The next place is worked out before the step is taken, and is the same whatever comes of
-// it, so that the compiler has one place to keep.
+// it, so that the compiler has one place to keep. (One `stands`, over `&&`, tried as steps.rt says: 62.3)
 pub(crate) fn advance(
     d: &mut [u32; 8],
     a: &mut [u32; 8],
@@ -140,7 +134,8 @@ pub(crate) fn advance(
     let next = on.next + 1;
     let acted = perform_on(d, a, on.flags, step.size, step.form);
     let came = acted.came;
-    let clocks = on.clocks + u64::from(acted.clocks);
+    let figure = u64::from(acted.clocks);
+    let clocks = on.clocks + figure;
     if came == Came::Done {
         stands(next < stop, came, next, clocks, acted.flags)
     } else {
@@ -173,12 +168,19 @@ fn end_at(len: usize, next: usize) -> End
     }
 }
 
+// The place before; 0 stays.
+pub(crate) fn place_before(next: usize) -> usize
+    ensures { result ≡ next - 1 }
+{
+    next.saturating_sub(1)
+}
+
 // Where a refused step stood, if `next` is the place behind it; a run that starts past the end has taken none.
 fn stood_at(fault: Fault, next: usize) -> usize
     ensures { result ≡ stood_at fault next }
 {
     match fault {
-        Fault::BadSmall | Fault::NoSuchSize | Fault::NoSuchRegister => next.saturating_sub(1),
+        Fault::BadSmall | Fault::NoSuchSize | Fault::NoSuchRegister => place_before(next),
         Fault::StartPastEnd => next,
     }
 }
@@ -194,7 +196,7 @@ fn halted_after(outcome: Outcome, len: usize, next: usize, line: u8) -> Halted
             next,
         },
         Outcome::Trapped(trap) => Halted {
-            end: End::Trapped(trap, next.saturating_sub(1), line),
+            end: End::Trapped(trap, place_before(next), line),
             next,
         },
         Outcome::Refused(fault) => {
@@ -212,7 +214,7 @@ pub(crate) fn left_off(len: usize, start: usize, on: Course, line: u8) -> Left
     requires { Halts len start on line }
     ensures { result ≡ left_of len start on line }
 {
-    let halted = halted_after(outcome_of(on.came), len, on.next, line);
+    let halted = halted_after(Outcome::from(on.came), len, on.next, line);
     let taken = halted.next - start;
     Left {
         end: halted.end,

@@ -1,5 +1,6 @@
 // One step: on registers that are lent, and by value. In a contract `within` and `figure` are the definitions of specs/,
-// not the functions.
+// not the functions. Where a comment says "tried", it counts instructions a step of the loop of a run, as `tools/one-loop` does of
+// code that is not proved yet (60.4 as it stands), and what is more than 1 % slower is not taken.
 ghost use Rattle.std.specs.Prelude.{◌≡◌, ℕ, ◌<◌, ◌&&◌, List, slice_set};
 ghost use Rattle.alu.specs.Answers.{refigured, figure};
 ghost use Rattle.alu.specs.Shifts.{shift_of};
@@ -27,7 +28,7 @@ use alu::integer_arith::{
 use alu::shift_rotate::{
     ShiftOp, exec_asl, exec_asr, exec_lsl, exec_lsr, exec_rol, exec_ror, exec_roxl, exec_roxr,
 };
-use alu::types::{Answer, Check, Flags, Size, accepted, figure};
+use alu::types::{Answer, Check, Flags, Size};
 
 // Why a step, or a run, is refused: document 01's numbers 1, 2, 3 and 10.
 #[derive(Clone, Copy)]
@@ -61,7 +62,7 @@ pub struct Performed {
     pub clocks: u32,
 }
 
-// How a step comes out, in one byte: the two of an `Outcome` are packed into a number and taken apart at each step.
+// How a step comes out, in one byte: an `Outcome` in its place is packed into a number and taken apart at each step (tried: 63.8).
 #[derive(Clone, Copy, PartialEq, Eq)]
 pub(crate) enum Came {
     Done,
@@ -109,7 +110,7 @@ impl From<Trap> for u32 {
     }
 }
 
-// Of two data registers. A function of its own: in place the test costs the loop one instruction a step, 61.3 for 60.4.
+// Of two data registers. (In place, where it is asked, tried: 61.3)
 fn are_there(s: D, t: D) -> bool
     ensures { result ≡ there s.0 && there t.0 }
 {
@@ -237,46 +238,44 @@ fn counted<const LEAST: u8, const MOST: u8, const MODULUS: u32>(d: &[u32; 8], c:
     }
 }
 
-fn came_of(check: Check) -> Came
-    ensures { came_out result ≡ outcome_of check }
-{
-    match check {
-        Check::Pass => Came::Done,
-        Check::Over => Came::Over,
-        Check::Short => Came::Short,
-        Check::Below => Came::Below,
+impl From<Check> for Came {
+    ghost from_gives = { λ check came. came_out came ≡ outcome_of check };
+
+    fn from(check: Check) -> Came {
+        match check {
+            Check::Pass => Came::Done,
+            Check::Over => Came::Over,
+            Check::Short => Came::Short,
+            Check::Below => Came::Below,
+        }
     }
 }
 
 // The outcome that it stands for.
-pub(crate) fn outcome_of(came: Came) -> Outcome
-    ensures { result ≡ came_out came }
-{
-    match came {
-        Came::Done => Outcome::Done,
-        Came::Over => Outcome::Trapped(Trap::Over),
-        Came::Short => Outcome::Trapped(Trap::Short),
-        Came::Below => Outcome::Trapped(Trap::Below),
-        Came::BadSmall => Outcome::Refused(Fault::BadSmall),
-        Came::NoSuchSize => Outcome::Refused(Fault::NoSuchSize),
-        Came::NoSuchRegister => Outcome::Refused(Fault::NoSuchRegister),
-        Came::StartPastEnd => Outcome::Refused(Fault::StartPastEnd),
+impl From<Came> for Outcome {
+    ghost from_gives = { λ came outcome. outcome ≡ came_out came };
+
+    fn from(came: Came) -> Outcome {
+        match came {
+            Came::Done => Outcome::Done,
+            Came::Over => Outcome::Trapped(Trap::Over),
+            Came::Short => Outcome::Trapped(Trap::Short),
+            Came::Below => Outcome::Trapped(Trap::Below),
+            Came::BadSmall => Outcome::Refused(Fault::BadSmall),
+            Came::NoSuchSize => Outcome::Refused(Fault::NoSuchSize),
+            Came::NoSuchRegister => Outcome::Refused(Fault::NoSuchRegister),
+            Came::StartPastEnd => Outcome::Refused(Fault::StartPastEnd),
+        }
     }
 }
 
-// What a step says once the operation has answered. The flags go over one by one, as in alu::types::accepted.
+// What a step says once the operation has answered. The flags go over one by one, here, in `refused` and in `stands` (moved whole, tried: 68.9).
 fn said(came: Came, answer: Answer) -> Acted
     ensures { result ≡ said_of came answer }
 {
     Acted {
         came,
-        flags: Flags {
-            x: answer.flags.x,
-            n: answer.flags.n,
-            z: answer.flags.z,
-            v: answer.flags.v,
-            c: answer.flags.c,
-        },
+        flags: Flags { ..answer.flags },
         clocks: answer.clocks,
     }
 }
@@ -287,13 +286,7 @@ fn refused(came: Came, flags: Flags) -> Acted
 {
     Acted {
         came,
-        flags: Flags {
-            x: flags.x,
-            n: flags.n,
-            z: flags.z,
-            v: flags.v,
-            c: flags.c,
-        },
+        flags: Flags { ..flags },
         clocks: 0,
     }
 }
@@ -310,9 +303,8 @@ fn to_data(d: &mut [u32; 8], size: Size, t: D, old: u32, answer: Answer) -> Acte
 fn to_data_timed(d: &mut [u32; 8], size: Size, t: D, old: u32, answer: Answer, long: u32) -> Acted
     ensures { (d.new ≡ slice_set d.old t.0 (merged_of size old answer.result)) × (result ≡ said_of How.Done (refigured answer (figure size answer.clocks long))) }
 {
-    let clocks = figure(size, answer.clocks, long);
-    let timed = accepted(answer.result, answer.flags, clocks);
-    to_data(d, size, t, old, timed)
+    let clocks = size.figure(answer.clocks, long);
+    to_data(d, size, t, old, Answer { clocks, ..answer })
 }
 
 // The result goes whole to a register.
@@ -322,6 +314,8 @@ fn to_whole(registers: &mut [u32; 8], t: u8, answer: Answer) -> Acted
     write(registers, t, answer.result);
     said(Came::Done, answer)
 }
+
+// Here and below the tests stand in `if`: with `?`, over a `Result` with the `Acted`, tried in eight ways: 60.9 to 68.6.
 
 // ADD, SUB, CMP, ADDX, SUBX Ds,Dt
 fn step_two(d: &mut [u32; 8], flags: Flags, size: Size, op: TwoOp, s: D, t: D) -> Acted
@@ -367,7 +361,7 @@ fn step_address(
     }
 }
 
-// ADDQ, SUBQ #k,Dt
+// ADDQ, SUBQ #k,Dt. (One function of this and the next, over a `Register`, tried: 63.3)
 fn step_quick(d: &mut [u32; 8], flags: Flags, size: Size, op: QuickOp, k: u8, t: D) -> Acted
     ensures { (a : List ℕ) → leaving d.new a result ≡ perform_form (held d.old a flags) size (Form.Quick op k (Register.Data t)) }
 {
@@ -452,8 +446,7 @@ fn step_bit(d: &mut [u32; 8], flags: Flags, size: Size, op: BitOp, c: Count, t: 
                 let dst = read(d, t.0);
                 let answer = bit(op, size, number, dst, flags);
                 let clocks = figure_of_bit(op, number, answer.clocks);
-                let timed = accepted(answer.result, answer.flags, clocks);
-                to_data(d, size, t, dst, timed)
+                to_data(d, size, t, dst, Answer { clocks, ..answer })
             } else {
                 refused(count_fault(c), flags)
             }
@@ -476,7 +469,7 @@ fn step_chk(d: &[u32; 8], flags: Flags, size: Size, s: D, t: D) -> Acted
             let bound = read(d, s.0);
             let value = read(d, t.0);
             let chk = exec_chk(size, bound, value, flags);
-            said(came_of(chk.check), chk.answer)
+            said(Came::from(chk.check), chk.answer)
         } else {
             refused(Came::NoSuchSize, flags)
         }
@@ -509,7 +502,7 @@ pub(crate) fn perform_on(
     }
 }
 
-// The outcome of a run of one step.
+// The outcome of a run of one step. No `From`: of a longer run it is not the outcome.
 fn outcome_from(end: End) -> Outcome
     ensures { result ≡ outcome_from end }
 {

@@ -114,6 +114,9 @@ wrote_whole o s {p} {r} v h =
 pub holds : (w : Writer) (s : List ℕ) {p : List ℕ} {r : ℕ} → Wrote w.out.now w.at s p r → record w { out = record w.out { now = p }; at = r } ≡ wrote w s
 holds w s l = ap (λ (left : Written). record w { out = record w.out { now = left.bytes }; at = left.next }) l
 
+pub writes_none : (w : Writer) → w ≡ wrote w []
+writes_none w = holds w [] (wrote_none w.out.now w.at)
+
 -- one text, and another behind it
 pub next : (w v u : Writer) (s t : List ℕ) → v ≡ wrote w s → u ≡ wrote v t → u ≡ wrote w (s ++ t)
 next w v u s t e f = f ∙ (ap (λ (v : Writer). wrote v t) e ∙ holds w (s ++ t) (then w.out.now w.at s t refl refl))

@@ -1,7 +1,5 @@
 -- `recipes::lent::translate` meets its contract: what was translated in an array is copied into the row that is lent. Assumes nothing.
-use mathlib.Core.Path.{◌≡◌, sym, ap, ◌∙◌}
-use Rattle.std.specs.Prelude.{Result, Ok, Err}
-use Rattle.recipes.specs.declared.types.Refused.{Refused}
+use mathlib.Core.Path.{sym}
 use Rattle.recipes.proofs.Digits.{handed_on}
 use Rattle.recipes.proofs.Settling.{lent_refused, lent_short, lent_copied}
 use Rattle.recipes.proofs.lent.translate.Goals as goal

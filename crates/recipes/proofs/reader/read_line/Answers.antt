@@ -1,5 +1,5 @@
 -- `recipes::reader::read_line` meets its contract: what `read_fields` answers, and then `check_line`. Assumes nothing.
-use mathlib.Core.Path.{sym, ◌∙◌}
+use mathlib.Core.Path.{◌∙◌}
 use Rattle.recipes.specs.Reader.{line_of}
 use Rattle.recipes.proofs.Digits.{handed_on}
 use Rattle.recipes.proofs.reader.read_line.Goals as goal

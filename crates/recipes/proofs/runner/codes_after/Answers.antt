@@ -1,5 +1,5 @@
 -- `recipes::runner::codes_after` meets its contract: the last line decides. Assumes nothing.
-use mathlib.Core.Path.{sym, ap, ◌∙◌}
+use mathlib.Core.Path.{sym}
 use Rattle.recipes.proofs.RunByRule.{codes_found}
 use Rattle.recipes.proofs.runner.codes_after.Goals as goal
 

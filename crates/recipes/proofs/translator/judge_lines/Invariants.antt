@@ -1,5 +1,3 @@
-use Prim.Native.Nat.{◌-◌}
-use lib.ListN.{length}
 use Rattle.recipes.proofs.Judging.{Passed}
 use Rattle.recipes.proofs.translator.judge_lines.Given as goal
 

@@ -32,7 +32,7 @@ loop-i-preserved c =
     ∙ (ap (λ (s : State). run_of perform_of l s (get_or starts i 0) a.budget) still
     ∙ sym (first_at_lem perform_of l a.budget n sets starts within.sets within.starts i ran _ 0 here)) in (
       ap (λ (row : List State). set row i ran.state) c.loop-i.invariant.0 ∙ row_next state_of runs sets fits_sets i ran ran is inside,
-      ap (λ (row : List Boxed). set row i (boxed_of ran)) c.loop-i.invariant.1 ∙ row_next boxed_of runs answers fits_answers i ran ran is inside,
+      ap₂ (λ (row : List Boxed) (z : Boxed). set row i z) c.loop-i.invariant.1 c.from.ensures ∙ row_next boxed_of runs answers fits_answers i ran ran is inside,
     )
 
 pub returns : goal.returns

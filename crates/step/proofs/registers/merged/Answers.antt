@@ -4,4 +4,4 @@ use Rattle.step.proofs.Sound.{merged_mask}
 use Rattle.step.proofs.registers.merged.Goals as goal
 
 pub returns : goal.returns
-returns c = let a = c.args in rw c.width_of-w.ensures (merged_mask a.size a.old a.value (omega arith) (omega arith))
+returns c = let a = c.args in rw c.width-w.ensures (merged_mask a.size a.old a.value (omega arith) (omega arith))
