@@ -16,6 +16,7 @@ mod slips;
 mod table;
 mod words;
 
+use boxes::Rack;
 use input::{LINE_MAX, failure_line, read_text};
 use pen::within;
 use recipes::printer::print_refusal;
@@ -26,7 +27,7 @@ use slips::put_slip;
 use std::env::Env;
 use std::io::Write;
 use std::rt::Files;
-use words::{Words, read_words};
+use words::{Shown, Words, read_words};
 
 // A recipe that was read is always translated.
 fn put_run<R: Env + Files, W: Write>(
@@ -39,12 +40,15 @@ fn put_run<R: Env + Files, W: Write>(
 ) -> usize {
     let asked = words.asked;
     let made = translate_array(recipe);
-    if 0 < words.file {
-        boxes::put_run(rt, to, out, asked, words.file, recipe, made)
-    } else if asked.rows {
-        rows::put_run(out, asked, made)
-    } else {
-        table::put_run(out, asked, text, recipe, made)
+    match words.shown {
+        Shown::Table => table::put_run(out, asked, text, recipe, made),
+        Shown::Rows => rows::put_run(out, asked, made),
+        Shown::Boxes(i) => Rack {
+            asked,
+            recipe,
+            made,
+        }
+        .put_run(rt, to, out, i),
     }
 }
 
@@ -61,26 +65,24 @@ fn answer<R: Env + Files, W: Write>(
     words: Words,
     text: &[u8],
 ) -> usize {
-    let asked = words.asked;
     let reading = read(text);
     let refused = reading.refused;
     let recipe = reading.recipe;
     if !is_nothing(refused) {
         let next = print_refusal(refused, out);
-        if asked.rows {
-            return next;
-        }
-        return put_slip(out, next, text, refused);
+        return match words.shown {
+            Shown::Rows => next,
+            Shown::Table | Shown::Boxes(_) => put_slip(out, next, text, refused),
+        };
     }
     put_run(rt, to, out, words, text, recipe)
 }
 
 fn main(rt: HostRuntime) {
     let mut told = rt.stderr();
-    let words = read_words(&rt, &mut told);
-    if !words.understood {
+    let Some(words) = read_words(&rt, &mut told) else {
         return;
-    }
+    };
     let mut line = [0u8; LINE_MAX];
     let mut text = [0u8; TEXT_MAX];
     let input = read_text(&mut rt.stdin(), &mut text);
