@@ -10,8 +10,8 @@ use crate::pen::{
     BLANK, Pen, TAB, at_start, put, put_byte, put_decimal, put_flags, put_line, put_right, within,
 };
 use crate::table::{numbering, sizes};
-use crate::words::{Asked, Given, NotTaken, WORD_ROOM, report, tell};
-use input::{LINE_MAX, failure_line, read_text};
+use crate::words::{Asked, Given, NotTaken, WORD_ROOM, report, tell, tell_failed};
+use input::read_text;
 use recipes::types::{Listing, Recipe};
 use std::env::Env;
 use std::fs::File;
@@ -271,11 +271,7 @@ fn read_file<R: Files>(files: &R, name: &[u8], file: &mut [u8]) -> Result<usize,
 fn report_unread<W: Write>(to: &mut W, name: &[u8], cause: Unread) {
     tell(to, b"bench: ");
     match cause {
-        Unread::Failed(error) => {
-            let mut line = [0u8; LINE_MAX];
-            let k = failure_line(&mut line, name, error);
-            tell(to, &line[..k]);
-        }
+        Unread::Failed(error) => tell_failed(to, name, error),
         Unread::TooLong => {
             tell(to, name);
             tell(

@@ -17,7 +17,7 @@ mod table;
 mod words;
 
 use boxes::Rack;
-use input::{LINE_MAX, failure_line, read_text};
+use input::read_text;
 use pen::within;
 use recipes::printer::print_refusal;
 use recipes::reader::read;
@@ -27,7 +27,7 @@ use slips::put_slip;
 use std::env::Env;
 use std::io::Write;
 use std::rt::Files;
-use words::{Shown, Words, read_words};
+use words::{Shown, Words, read_words, tell_failed};
 
 // A recipe that was read is always translated.
 fn put_run<R: Env + Files, W: Write>(
@@ -83,20 +83,16 @@ fn main(rt: HostRuntime) {
     let Some(words) = read_words(&rt, &mut told) else {
         return;
     };
-    let mut line = [0u8; LINE_MAX];
     let mut text = [0u8; TEXT_MAX];
     let input = read_text(&mut rt.stdin(), &mut text);
     if let Some(error) = input.failed {
-        let k = failure_line(&mut line, b"bench: standard input", error);
-        let _ = told.write_all(&line[..k]);
+        tell_failed(&mut told, b"bench: standard input", error);
         return;
     }
-    let n = input.n;
     let mut out = [0u8; ROOM];
-    let m = answer(&rt, &mut told, &mut out, words, &text[..n]);
-    let m = within(m, &out);
-    if let Err(error) = rt.stdout().write_all(&out[..m]) {
-        let k = failure_line(&mut line, b"bench: standard output", error);
-        let _ = told.write_all(&line[..k]);
+    let n = answer(&rt, &mut told, &mut out, words, &text[..input.n]);
+    let n = within(n, &out);
+    if let Err(error) = rt.stdout().write_all(&out[..n]) {
+        tell_failed(&mut told, b"bench: standard output", error);
     }
 }

@@ -4,9 +4,10 @@ ghost use Rattle.std.specs.Prelude.{◌≤◌};
 use crate::pen::{at_start, within};
 use crate::slips::put_start;
 use alu::types::Flags;
+use input::{LINE_MAX, failure_line};
 use std::env::{Env, FillError};
 use std::fmt;
-use std::io::Write;
+use std::io::{Error, Write};
 use step::registers::State;
 
 // Room for a word; `read_words` has it written out.
@@ -88,7 +89,7 @@ pub(crate) struct Given {
     from: Option<usize>,
 }
 
-// What the words of the program give. `boxes` is the number of the word that names a file.
+// What the words of the program give. `rows` has no value; `boxes` is the number of the word that names a file.
 #[derive(Clone, Copy, Default)]
 struct Said {
     box_words: Given,
@@ -106,34 +107,34 @@ fn give<T: Copy>(thing: &mut Option<T>, value: T) -> Result<(), NotTaken> {
     Ok(())
 }
 
-// A number of 1 to `most` digits.
-fn number_of(text: &[u8], base: u32, most: usize) -> Option<u64>
+// A number of 1 to `most` digits, where it fits.
+fn number_of<N: TryFrom<u64>>(text: &[u8], base: u32, most: usize) -> Result<N, NotTaken>
+where
+    N::Error: Drop,
     requires { (2 ≤ base) × (base ≤ 36) }
 {
     if text.is_empty() || most < text.len() {
-        return None;
+        return Err(NotTaken::Unknown);
     }
-    text.iter().try_fold(0u64, |value, b| {
+    let number = text.iter().try_fold(0u64, |value, b| {
         let digit = char::from(*b).to_digit(base)?;
         value
             .checked_mul(u64::from(base))?
             .checked_add(u64::from(digit))
-    })
+    });
+    let number = number.ok_or(NotTaken::Unknown)?;
+    N::try_from(number).map_err(|_| NotTaken::Unknown)
 }
 
-fn place_of(value: &[u8]) -> Result<usize, NotTaken> {
-    let place = number_of(value, 10, 10).ok_or(NotTaken::Unknown)?;
-    Ok(place as usize)
+fn decimal_of<N: TryFrom<u64>>(text: &[u8]) -> Result<N, NotTaken>
+where
+    N::Error: Drop,
+{
+    number_of(text, 10, 10)
 }
 
-fn count_of(value: &[u8]) -> Result<u32, NotTaken> {
-    let count = number_of(value, 10, 10).ok_or(NotTaken::Unknown)?;
-    u32::try_from(count).map_err(|_| NotTaken::Unknown)
-}
-
-fn long_of(value: &[u8]) -> Result<u32, NotTaken> {
-    let long = number_of(value, 16, 8).ok_or(NotTaken::Unknown)?;
-    u32::try_from(long).map_err(|_| NotTaken::Unknown)
+fn hex_of(text: &[u8]) -> Result<u32, NotTaken> {
+    number_of(text, 16, 8)
 }
 
 fn flag_of(value: &[u8]) -> Result<bool, NotTaken> {
@@ -164,14 +165,14 @@ impl Given {
     pub(crate) fn take(&mut self, word: &[u8]) -> Result<(), NotTaken> {
         let (name, value) = parted(word).ok_or(NotTaken::Unknown)?;
         match name {
-            b"from" => give(&mut self.from, place_of(value)?),
+            b"from" => give(&mut self.from, decimal_of(value)?),
             b"X" => give(&mut self.x, flag_of(value)?),
             b"N" => give(&mut self.n, flag_of(value)?),
             b"Z" => give(&mut self.z, flag_of(value)?),
             b"V" => give(&mut self.v, flag_of(value)?),
             b"C" => give(&mut self.c, flag_of(value)?),
-            [b'D', r @ b'0'..=b'7'] => give(&mut self.d[(*r - b'0') as usize], long_of(value)?),
-            [b'A', r @ b'0'..=b'7'] => give(&mut self.a[(*r - b'0') as usize], long_of(value)?),
+            [b'D', r @ b'0'..=b'7'] => give(&mut self.d[(*r - b'0') as usize], hex_of(value)?),
+            [b'A', r @ b'0'..=b'7'] => give(&mut self.a[(*r - b'0') as usize], hex_of(value)?),
             _ => Err(NotTaken::Unknown),
         }
     }
@@ -204,7 +205,7 @@ impl Said {
             return give(&mut self.rows, ());
         }
         match parted(word) {
-            Some((b"steps", count)) => give(&mut self.steps, count_of(count)?),
+            Some((b"steps", count)) => give(&mut self.steps, decimal_of(count)?),
             Some((b"boxes", [_, ..])) => give(&mut self.boxes, i),
             _ => self.box_words.take(word),
         }
@@ -232,6 +233,13 @@ impl Said {
 // Where it can't be written, nothing more is said.
 pub(crate) fn tell<W: Write>(to: &mut W, text: &[u8]) {
     let _ = to.write_all(text);
+}
+
+// What failed, as `what` names it, and why.
+pub(crate) fn tell_failed<W: Write>(to: &mut W, what: &[u8], error: Error) {
+    let mut line = [0u8; LINE_MAX];
+    let n = failure_line(&mut line, what, error);
+    tell(to, &line[..n]);
 }
 
 // A word made visible, as a refused line is.
