@@ -3,14 +3,11 @@
 ghost use Rattle.std.specs.Prelude.{◌≡◌, ◌≤◌, length};
 ghost use Rattle.io.specs.Counts.{IsPrefixLen};
 
-use crate::course::whole_run;
-use crate::ending::{is_budget, put_end, put_words};
-use crate::numbers::{count_of, put_longs};
-use crate::pen::{
-    BLANK, Pen, TAB, at_start, line_start, put, put_byte, put_decimal, put_fields, put_flags,
-    put_line, put_right, within,
-};
-use crate::table::{numbering, sizes};
+use crate::course::Run;
+use crate::ending::{Ended, GoOn};
+use crate::numbers::{Number, longs_of, put_numbering};
+use crate::pen::{Bits, Pen, TAB, line_at};
+use crate::table::Sizes;
 use crate::words::{Asked, OF_A_BOX, Taking, WORD_ROOM, is_taken, report, tell, unsaid, with_text};
 use input::{Input, LINE_MAX, failure_line, read_text};
 use recipes::types::{Listing, Recipe};
@@ -19,8 +16,7 @@ use std::fs::File;
 use std::io::{Error, ErrorKind, Write};
 use std::rt::Files;
 use step::racks::{BOXES_MAX, number, plan};
-use step::runs::Ran;
-use text::parts::first;
+use step::runs::{End, Ran};
 use text::types::NEWLINE;
 
 // The most bytes of a file: as many lines as a rack has boxes, of 255 bytes and a line end. `report_long` has both written out.
@@ -62,7 +58,7 @@ fn first_of(line: &[u8], from: usize, blank: bool) -> usize
     let mut at = from;
     while at < line.len() {
         let b = line[at];
-        if ((b == BLANK) | (b == TAB)) == blank {
+        if ((b == b' ') | (b == TAB)) == blank {
             return at;
         }
         at += 1;
@@ -112,12 +108,6 @@ fn count_lines(file: &[u8]) -> usize {
     count
 }
 
-// Line k, from 0.
-fn line_of<'a>(file: &'a [u8], k: usize) -> &'a [u8] {
-    let left = &file[line_start(file, k)..];
-    &left[..first(left, NEWLINE)]
-}
-
 // Whether line k, from 0, is understood. A word that is not taken is reported.
 fn check_line<W: Write>(to: &mut W, name: &[u8], k: usize, line: &[u8], asked: Asked) -> bool {
     let read = read_line(line, asked);
@@ -139,7 +129,7 @@ fn check_line<W: Write>(to: &mut W, name: &[u8], k: usize, line: &[u8], asked: A
 fn check_lines<W: Write>(to: &mut W, name: &[u8], file: &[u8], count: usize, asked: Asked) -> bool {
     let mut k = 0;
     while k < count {
-        if !check_line(to, name, k, line_of(file, k), asked) {
+        if !check_line(to, name, k, line_at(file, k), asked) {
             return false;
         }
         k += 1;
@@ -148,182 +138,99 @@ fn check_lines<W: Write>(to: &mut W, name: &[u8], file: &[u8], count: usize, ask
 }
 
 // The run of box k, from 0.
-fn run_of(file: &[u8], k: usize, asked: Asked, made: Listing) -> Ran {
-    let read = read_line(line_of(file, k), asked);
-    let own = read.asked;
-    whole_run(made, own)
-}
-
-fn put_boxes(pen: Pen, count: usize) -> Pen {
-    let next = put(pen, b", ");
-    let next = put_decimal(next, count as u64);
-    let next = put(next, b" box");
-    if count == 1 {
-        return next;
-    }
-    put(next, b"es")
+fn run_of(file: &[u8], k: usize, run: Run) -> Ran {
+    let Run { made, asked } = run;
+    let asked = read_line(line_at(file, k), asked).asked;
+    Run { made, asked }.whole()
 }
 
 // The heading of the columns at width 1, 2 and 4.
-fn heading(width: u8) -> Pen {
-    let all =
-        b"box  end         place  steps  clocks  X N Z V C  number 0  number 1  number 2  number 3  number 4  number 5  number 6  number 7\n\
-        box  end         place  steps  clocks  X N Z V C  number 0           number 1           number 2           number 3\n\
-        box  end         place  steps  clocks  X N Z V C  number 0                             number 1\n";
-    put_fields(at_start(), all, line_start(all, width as usize / 2))
+fn heading(width: u8) -> &'static str {
+    match width {
+        1 =>
+            "box  end         place  steps  clocks  X N Z V C  number 0  number 1  number 2  number 3  number 4  number 5  number 6  number 7",
+        2 =>
+            "box  end         place  steps  clocks  X N Z V C  number 0           number 1           number 2           number 3",
+        _ =>
+            "box  end         place  steps  clocks  X N Z V C  number 0                             number 1",
+    }
 }
 
 // A number that ends before a column, behind two blanks at least.
-fn put_figure(pen: Pen, column: usize, n: u64) -> Pen {
-    let next = put(pen, b"  ");
-    put_right(next, column, n)
+fn put_figure(pen: &mut Pen, column: usize, n: u64) {
+    write!(pen, "  ");
+    pen.put_right(column, n);
 }
 
-// All numbers, two blanks before each.
-fn put_numbers(pen: Pen, width: u8, d: [u32; 8]) -> Pen {
-    let mut next = pen;
-    let mut k = 0;
-    while k < count_of(width) {
-        next = put_byte(next, BLANK);
-        next = put_longs(next, width, d, k);
-        k += 1;
+fn put_row(pen: &mut Pen, number: u64, width: u8, ran: Ran) {
+    pen.put_right(BOX, number);
+    write!(pen, "  {}", Ended(ran.end));
+    put_figure(pen, PLACE, ran.next as u64);
+    put_figure(pen, STEPS, ran.steps as u64);
+    put_figure(pen, CLOCKS, ran.clocks);
+    write!(pen, " {}", Bits(' ', ran.state.flags));
+    for longs in ran.state.d.chunks(longs_of(width)) {
+        write!(pen, " {}", Number(longs));
     }
-    next
+    writeln!(pen);
 }
 
-fn row(number: u64, width: u8, ran: Ran) -> Pen {
-    let end = ran.end;
-    let state = ran.state;
-    let d = state.d;
-    let flags = state.flags;
-    let next = put_right(at_start(), BOX, number);
-    let next = put(next, b"  ");
-    let next = put_end(next, b"Finished\nBudget\nTrapped \nRefused \n", end);
-    let next = put_figure(next, PLACE, ran.next as u64);
-    let next = put_figure(next, STEPS, ran.steps as u64);
-    let next = put_figure(next, CLOCKS, ran.clocks);
-    let next = put_byte(next, BLANK);
-    let next = put_flags(next, BLANK, flags);
-    put_numbers(next, width, d)
-}
-
-// Whether the budget ended the run of some box.
-fn some_halted(file: &[u8], count: usize, asked: Asked, made: Listing) -> bool {
-    let mut k = 0;
-    while k < count {
-        let ran = run_of(file, k, asked, made);
-        let end = ran.end;
-        if is_budget(end) {
-            return true;
+// The whole table: a row for each box, and where some box was halted, an empty line, and a file to go on with.
+fn put_table(pen: &mut Pen, file: &[u8], count: usize, recipe: &Recipe, run: Run) {
+    let Recipe {
+        width,
+        count: lines,
+        ..
+    } = *recipe;
+    let steps = run.made.count;
+    let end = if count == 1 { "" } else { "es" };
+    writeln!(
+        pen,
+        "{}, {count} box{end}",
+        Sizes {
+            width,
+            lines,
+            steps
         }
-        k += 1;
-    }
-    false
-}
-
-fn line_for(k: usize, width: u8, ran: Ran, on: bool) -> Pen {
-    if on {
-        return put_words(at_start(), ran);
-    }
-    row(k as u64, width, ran)
-}
-
-// A line for each box: its row, or the words to go on with.
-fn put_each(
-    out: &mut [u8],
-    at: usize,
-    file: &[u8],
-    count: usize,
-    asked: Asked,
-    width: u8,
-    made: Listing,
-    on: bool,
-) -> usize {
-    let mut next = at;
-    let mut k = 0;
-    while k < count {
-        let ran = run_of(file, k, asked, made);
-        k += 1;
-        next = put_line(out, next, line_for(k, width, ran, on));
-    }
-    next
-}
-
-// What stands below the rows, where some box was halted: an empty line, and a file to go on with.
-fn put_halted(
-    out: &mut [u8],
-    at: usize,
-    file: &[u8],
-    count: usize,
-    asked: Asked,
-    width: u8,
-    made: Listing,
-) -> usize {
-    let above = put(
-        at_start(),
-        b"\nhalted: go on with boxes=FILE, and steps=COUNT if you like, where FILE has these lines",
     );
-    let next = put_line(out, at, above);
-    put_each(out, next, file, count, asked, width, made, true)
-}
-
-// What stands above the rows.
-fn put_top(out: &mut [u8], recipe: Recipe, steps: usize, count: usize) -> usize {
-    let width = recipe.width;
-    let next = put_boxes(sizes(width, recipe.count, steps), count);
-    let next = put_line(out, 0, next);
-    let next = put_line(out, next, numbering(width));
-    let next = put_line(out, next, at_start());
-    put_line(out, next, heading(width))
-}
-
-// The whole table.
-fn put_table(
-    out: &mut [u8],
-    file: &[u8],
-    count: usize,
-    asked: Asked,
-    recipe: Recipe,
-    made: Listing,
-) -> usize {
-    let width = recipe.width;
-    let next = put_top(out, recipe, made.count, count);
-    let next = put_each(out, next, file, count, asked, width, made, false);
-    if some_halted(file, count, asked, made) {
-        return put_halted(out, next, file, count, asked, width, made);
+    put_numbering(pen, width);
+    writeln!(pen, "\n{}", heading(width));
+    let mut halted = false;
+    for k in 0..count {
+        let ran = run_of(file, k, run);
+        put_row(pen, k as u64, width, ran);
+        halted |= matches!(ran.end, End::Budget);
     }
-    next
-}
-
-// More boxes than a rack has. It has `BOXES_MAX` written out.
-fn put_refusal(out: &mut [u8], refusal: u64) -> usize {
-    let next = put(at_start(), b"refused\t");
-    let next = put_decimal(next, refusal);
-    let next = put(next, b"\nCut the file in two: a rack has at most 64 boxes.");
-    put_line(out, 0, next)
+    if halted {
+        writeln!(
+            pen,
+            "\nhalted: go on with boxes=FILE, and steps=COUNT if you like, where FILE has these lines"
+        );
+        for k in 0..count {
+            writeln!(pen, "{}", GoOn(run_of(file, k, run)));
+        }
+    }
 }
 
 // The boxes are counted before their words are looked at; each has a start place and a row.
 fn put_rack<W: Write>(
     to: &mut W,
-    out: &mut [u8],
+    pen: &mut Pen,
     name: &[u8],
     file: &[u8],
-    asked: Asked,
-    recipe: Recipe,
-    made: Listing,
-) -> usize {
+    recipe: &Recipe,
+    run: Run,
+) {
     let count = count_lines(file);
     let racked = plan(count, count, count);
     let fit = racked.fit;
-    let refusal = number(fit) as u64;
+    let refusal = number(fit);
     if refusal != 0 {
-        return put_refusal(out, refusal);
+        writeln!(pen, "refused\t{refusal}");
+        writeln!(pen, "Cut the file in two: a rack has at most 64 boxes.");
+    } else if check_lines(to, name, file, count, run.asked) {
+        put_table(pen, file, count, recipe, run);
     }
-    if !check_lines(to, name, file, count, asked) {
-        return 0;
-    }
-    put_table(out, file, count, asked, recipe, made)
 }
 
 fn unread(error: Error) -> Input
@@ -386,34 +293,31 @@ fn read_file<R: Files, W: Write>(files: &R, to: &mut W, name: &[u8], file: &mut 
 fn put_named<R: Files, W: Write>(
     files: &R,
     to: &mut W,
-    out: &mut [u8],
+    pen: &mut Pen,
     name: &[u8],
-    asked: Asked,
-    recipe: Recipe,
-    made: Listing,
-) -> usize {
+    recipe: &Recipe,
+    run: Run,
+) {
     let mut file = [0u8; FILE_ROOM];
     let lines = read_file(files, to, name, &mut file);
-    if !lines.ok {
-        return 0;
+    if lines.ok {
+        let n = lines.n;
+        put_rack(to, pen, name, &file[..n], recipe, run);
     }
-    let n = lines.n;
-    put_rack(to, out, name, &file[..n], asked, recipe, made)
 }
 
-// Word i of the program names the file, behind six bytes. Answers the next place of `out`: 0, with the cause told,
-// where the file can't be read or a line is not understood.
+// Word i of the program names the file, behind six bytes. Nothing is written, and the cause told, where the file can't be
+// read or a line is not understood.
 pub(crate) fn put_run<R: Env + Files, W: Write>(
     rt: &R,
     to: &mut W,
-    out: &mut [u8],
-    asked: Asked,
+    pen: &mut Pen,
     i: usize,
-    recipe: Recipe,
-    made: Listing,
-) -> usize {
+    recipe: &Recipe,
+    run: Run,
+) {
     let mut word = [0u8; WORD_ROOM];
     let n = rt.arg(i, &mut word).unwrap_or(0);
-    let from = within(6, &word[..n]);
-    put_named(rt, to, out, &word[from..n], asked, recipe, made)
+    let from = n.min(6);
+    put_named(rt, to, pen, &word[from..n], recipe, run);
 }

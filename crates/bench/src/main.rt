@@ -16,35 +16,38 @@ mod slips;
 mod table;
 mod words;
 
+use course::Run;
 use input::{LINE_MAX, failure_line, read_text};
-use pen::within;
-use recipes::printer::print_refusal;
+use pen::Pen;
 use recipes::reader::read;
 use recipes::translator::translate_array;
 use recipes::types::{Recipe, TEXT_MAX, is_nothing};
-use slips::put_slip;
+use slips::{put_refusal, put_slip};
 use std::env::Env;
 use std::io::Write;
 use std::rt::Files;
+use table::Shown;
 use words::{Words, read_words};
 
 // A recipe that was read is always translated.
 fn put_run<R: Env + Files, W: Write>(
     rt: &R,
     to: &mut W,
-    out: &mut [u8],
+    pen: &mut Pen,
     words: Words,
     text: &[u8],
     recipe: Recipe,
-) -> usize {
+) {
     let asked = words.asked;
     let made = translate_array(recipe);
+    let run = Run { made: &made, asked };
     if 0 < words.file {
-        boxes::put_run(rt, to, out, asked, words.file, recipe, made)
+        boxes::put_run(rt, to, pen, words.file, &recipe, run);
     } else if asked.rows {
-        rows::put_run(out, asked, made)
+        rows::put_run(pen, run);
     } else {
-        table::put_run(out, asked, text, recipe, made)
+        let recipe = &recipe;
+        Shown { text, recipe, run }.put(pen);
     }
 }
 
@@ -54,25 +57,17 @@ fn put_run<R: Env + Files, W: Write>(
 const ROOM: usize = 65536;
 
 // The whole answer to a text.
-fn answer<R: Env + Files, W: Write>(
-    rt: &R,
-    to: &mut W,
-    out: &mut [u8],
-    words: Words,
-    text: &[u8],
-) -> usize {
-    let asked = words.asked;
+fn answer<R: Env + Files, W: Write>(rt: &R, to: &mut W, pen: &mut Pen, words: Words, text: &[u8]) {
     let reading = read(text);
     let refused = reading.refused;
-    let recipe = reading.recipe;
-    if !is_nothing(refused) {
-        let next = print_refusal(refused, out);
-        if asked.rows {
-            return next;
-        }
-        return put_slip(out, next, text, refused);
+    if is_nothing(refused) {
+        put_run(rt, to, pen, words, text, reading.recipe);
+        return;
     }
-    put_run(rt, to, out, words, text, recipe)
+    put_refusal(pen, refused);
+    if !words.asked.rows {
+        put_slip(pen, text, refused);
+    }
 }
 
 fn main(rt: HostRuntime) {
@@ -91,9 +86,9 @@ fn main(rt: HostRuntime) {
     }
     let n = input.n;
     let mut out = [0u8; ROOM];
-    let m = answer(&rt, &mut told, &mut out, words, &text[..n]);
-    let m = within(m, &out);
-    if let Err(error) = rt.stdout().write_all(&out[..m]) {
+    let mut pen = Pen::new(&mut out);
+    answer(&rt, &mut told, &mut pen, words, &text[..n]);
+    if let Err(error) = rt.stdout().write_all(pen.written()) {
         let k = failure_line(&mut line, b"bench: standard output", error);
         let _ = told.write_all(&line[..k]);
     }

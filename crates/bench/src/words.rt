@@ -1,8 +1,7 @@
 // The words that the program is started with, and those of a box's line (boxes.rt).
 ghost use Rattle.std.specs.Prelude.{◌<◌, ◌≤◌};
 
-use crate::pen::{at_start, within};
-use crate::slips::put_start;
+use crate::slips::Start;
 use alu::types::Flags;
 use std::env::{Env, FillError};
 use std::io::Write;
@@ -386,10 +385,7 @@ pub(crate) fn tell<W: Write>(to: &mut W, text: &[u8]) {
 
 // A word made visible, as a refused line is.
 fn tell_seen<W: Write>(to: &mut W, text: &[u8]) {
-    let pen = put_start(at_start(), text);
-    let line = pen.line;
-    let n = within(pen.at, &line);
-    tell(to, &line[..n]);
+    let _ = write!(to, "{}", Start(text));
 }
 
 // Says why a word was not taken. Where it stands is said before.
