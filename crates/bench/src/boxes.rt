@@ -3,23 +3,20 @@
 ghost use Rattle.std.specs.Prelude.{IfOk};
 ghost use Rattle.io.specs.Counts.{IsPrefixLen};
 
-use crate::course::{not_begun, whole_run};
-use crate::ending::{is_budget, put_end, put_words};
-use crate::numbers::{count_of, put_longs};
-use crate::pen::{
-    BLANK, Pen, TAB, at_start, put, put_byte, put_decimal, put_flags, put_line, put_right, within,
-};
-use crate::table::{numbering, sizes};
+use crate::course::Run;
+use crate::ending::{Ended, GoOn};
+use crate::numbers::{Number, longs_of, put_numbering};
+use crate::pen::{Bits, NEWLINE, Pen, TAB};
+use crate::table::Sizes;
 use crate::words::{Asked, Given, NotTaken, WORD_ROOM, report, tell, tell_failed};
 use input::read_text;
-use recipes::types::{Listing, Recipe};
+use recipes::types::Recipe;
 use std::env::Env;
 use std::fs::File;
 use std::io::{Error, ErrorKind, Write};
 use std::rt::Files;
 use step::racks::{BOXES_MAX, number, plan};
-use step::runs::Ran;
-use text::types::NEWLINE;
+use step::runs::{End, Ran};
 
 // The most bytes of a file: as many lines as a rack has boxes, of 255 bytes and a line end. `report_unread` has both written out.
 // One byte more has room, by which a longer file is told.
@@ -36,12 +33,11 @@ const STEPS: usize = 29;
 
 const CLOCKS: usize = 37;
 
-// What all boxes have: what is asked for each behind the words of its line, and the recipe that they run.
+// What all boxes have: the recipe that they run, and what is asked for each behind the words of its line.
 #[derive(Clone, Copy)]
-pub(crate) struct Rack {
-    pub asked: Asked,
-    pub recipe: Recipe,
-    pub made: Listing,
+pub(crate) struct Rack<'a> {
+    pub recipe: &'a Recipe,
+    pub run: Run<'a>,
 }
 
 // The first word of a line that is not taken, and why.
@@ -68,7 +64,7 @@ enum Unread {
 // What a box's line asks for. Its line end is no word.
 fn read_line(line: &[u8], asked: Asked) -> Result<Asked, BadWord<'_>> {
     let mut given = Given::default();
-    for word in line.split(|b| matches!(*b, BLANK | TAB | NEWLINE)) {
+    for word in line.split(|b| matches!(*b, b' ' | TAB | NEWLINE)) {
         if !word.is_empty() {
             given.take(word).map_err(|why| BadWord { word, why })?;
         }
@@ -81,158 +77,123 @@ fn count_lines(file: &[u8]) -> usize {
     file.split_inclusive(|b| *b == NEWLINE).count()
 }
 
-fn put_boxes(pen: Pen, count: usize) -> Pen {
-    let next = put(pen, b", ");
-    let next = put_decimal(next, count as u64);
-    let next = put(next, b" box");
-    if count == 1 {
-        return next;
-    }
-    put(next, b"es")
-}
-
 // The heading of the columns.
-fn heading(width: u8) -> Pen {
-    let columns: &[u8] = match width {
-        1 => b"number 0  number 1  number 2  number 3  number 4  number 5  number 6  number 7",
-        2 => b"number 0           number 1           number 2           number 3",
-        _ => b"number 0                             number 1",
-    };
-    let next = put(
-        at_start(),
-        b"box  end         place  steps  clocks  X N Z V C  ",
-    );
-    put(next, columns)
+fn heading(width: u8) -> &'static str {
+    match width {
+        1 => {
+            "box  end         place  steps  clocks  X N Z V C  number 0  number 1  number 2  number 3  number 4  number 5  number 6  number 7"
+        }
+        2 => {
+            "box  end         place  steps  clocks  X N Z V C  number 0           number 1           number 2           number 3"
+        }
+        _ => {
+            "box  end         place  steps  clocks  X N Z V C  number 0                             number 1"
+        }
+    }
 }
 
 // A number that ends before a column, behind two blanks at least.
-fn put_figure(pen: Pen, column: usize, n: u64) -> Pen {
-    let next = put(pen, b"  ");
-    put_right(next, column, n)
+fn put_figure(pen: &mut Pen, column: usize, n: u64) {
+    write!(pen, "  ");
+    pen.put_right(column, n);
 }
 
-// All numbers, two blanks before each.
-fn put_numbers(pen: Pen, width: u8, d: [u32; 8]) -> Pen {
-    let mut next = pen;
-    for k in 0..count_of(width) {
-        next = put_byte(next, BLANK);
-        next = put_longs(next, width, d, k);
+fn put_row(pen: &mut Pen, number: u64, width: u8, ran: Ran) {
+    pen.put_right(BOX, number);
+    write!(pen, "  {}", Ended(ran.end));
+    put_figure(pen, PLACE, ran.next as u64);
+    put_figure(pen, STEPS, u64::from(ran.steps));
+    put_figure(pen, CLOCKS, ran.clocks);
+    write!(pen, " {}", Bits(' ', ran.state.flags));
+    for longs in ran.state.d.chunks(longs_of(width)) {
+        write!(pen, " {}", Number(longs));
     }
-    next
-}
-
-fn row(number: u64, width: u8, ran: Ran) -> Pen {
-    let next = put_right(at_start(), BOX, number);
-    let next = put(next, b"  ");
-    let next = put_end(next, b"Finished\nBudget\nTrapped \nRefused \n", ran.end);
-    let next = put_figure(next, PLACE, ran.next as u64);
-    let next = put_figure(next, STEPS, ran.steps as u64);
-    let next = put_figure(next, CLOCKS, ran.clocks);
-    let next = put_byte(next, BLANK);
-    let next = put_flags(next, BLANK, ran.state.flags);
-    put_numbers(next, width, ran.state.d)
-}
-
-// A line for each box, which `line` makes of its number, from 1, and its run.
-fn put_each<F: Fn(u64, Ran) -> Pen>(out: &mut [u8], at: usize, runs: &[Ran], line: F) -> usize
-    requires { F.IsAlwaysCallable line }
-{
-    let mut next = at;
-    for (number, ran) in (1..).zip(runs) {
-        next = put_line(out, next, line(number, *ran));
-    }
-    next
+    writeln!(pen);
 }
 
 // What stands below the rows, where some box was halted: an empty line, and a file to go on with.
-fn put_halted(out: &mut [u8], at: usize, runs: &[Ran]) -> usize {
-    let above = put(
-        at_start(),
-        b"\nhalted: go on with boxes=FILE, and steps=COUNT if you like, where FILE has these lines",
+fn put_halted(pen: &mut Pen, runs: &[Ran]) {
+    writeln!(
+        pen,
+        "\nhalted: go on with boxes=FILE, and steps=COUNT if you like, where FILE has these lines"
     );
-    let next = put_line(out, at, above);
-    put_each(out, next, runs, |_, ran| put_words(at_start(), ran))
+    for ran in runs {
+        writeln!(pen, "{}", GoOn(*ran));
+    }
 }
 
-// More boxes than a rack has. It has `BOXES_MAX` written out.
-fn put_refusal(out: &mut [u8], refusal: u64) -> usize {
-    let next = put(at_start(), b"refused\t");
-    let next = put_decimal(next, refusal);
-    let next = put(next, b"\nCut the file in two: a rack has at most 64 boxes.");
-    put_line(out, 0, next)
-}
-
-impl Rack {
+impl Rack<'_> {
     // The run of each line's box; as many as there is room for.
     fn run_lines<'a>(&self, file: &'a [u8], runs: &mut [Ran]) -> Result<(), BadLine<'a>> {
+        let Run { made, asked } = self.run;
         let lines = file.split_inclusive(|b| *b == NEWLINE);
         for (number, (line, ran)) in (1..).zip(lines.zip(runs)) {
-            let own = read_line(line, self.asked).map_err(|bad| BadLine { number, bad })?;
-            *ran = whole_run(self.made, own);
+            let asked = read_line(line, asked).map_err(|bad| BadLine { number, bad })?;
+            *ran = Run { made, asked }.whole();
         }
         Ok(())
     }
 
-    // What stands above the rows.
-    fn put_top(&self, out: &mut [u8], count: usize) -> usize {
-        let width = self.recipe.width;
-        let next = put_boxes(sizes(width, self.recipe.count, self.made.count), count);
-        let next = put_line(out, 0, next);
-        let next = put_line(out, next, numbering(width));
-        let next = put_line(out, next, at_start());
-        put_line(out, next, heading(width))
-    }
-
     // The whole table.
-    fn put_table(&self, out: &mut [u8], runs: &[Ran]) -> usize {
-        let width = self.recipe.width;
-        let next = self.put_top(out, runs.len());
-        let next = put_each(out, next, runs, |number, ran| row(number, width, ran));
-        if runs.iter().any(|ran| is_budget(ran.end)) {
-            return put_halted(out, next, runs);
+    fn put_table(&self, pen: &mut Pen, runs: &[Ran]) {
+        let Recipe {
+            width,
+            count: lines,
+            ..
+        } = *self.recipe;
+        let sizes = Sizes {
+            width,
+            lines,
+            steps: self.run.made.count,
+        };
+        let boxes = runs.len();
+        let end = if boxes == 1 { "" } else { "es" };
+        writeln!(pen, "{sizes}, {boxes} box{end}");
+        put_numbering(pen, width);
+        writeln!(pen, "\n{}", heading(width));
+        for (number, ran) in (1..).zip(runs) {
+            put_row(pen, number, width, *ran);
         }
-        next
+        if runs.iter().any(|ran| matches!(ran.end, End::Budget)) {
+            put_halted(pen, runs);
+        }
     }
 
     // The boxes are counted before their words are looked at; each has a start place and a row.
-    fn put_rack<W: Write>(&self, to: &mut W, out: &mut [u8], name: &[u8], file: &[u8]) -> usize {
+    fn put_rack<W: Write>(&self, to: &mut W, pen: &mut Pen, name: &[u8], file: &[u8]) {
         let count = count_lines(file);
         let racked = plan(count, count, count);
-        let refusal = number(racked.fit) as u64;
+        let refusal = number(racked.fit);
         if refusal != 0 {
-            return put_refusal(out, refusal);
+            writeln!(pen, "refused\t{refusal}");
+            // It has `BOXES_MAX` written out.
+            writeln!(pen, "Cut the file in two: a rack has at most 64 boxes.");
+            return;
         }
-        let mut room = [not_begun(self.asked); BOXES_MAX];
+        let mut room = [self.run.not_begun(); BOXES_MAX];
         let runs = &mut room[..racked.boxes];
         match self.run_lines(file, runs) {
-            Ok(()) => self.put_table(out, runs),
-            Err(refused) => {
-                report_line(to, name, refused);
-                0
-            }
+            Ok(()) => self.put_table(pen, runs),
+            Err(refused) => report_line(to, name, refused),
         }
     }
 
-    // Word i of the program names the file, behind six bytes. Answers the next place of `out`: 0, with the cause told,
-    // where the file can't be read or a line is not understood.
+    // Word i of the program names the file, behind six bytes. Nothing is printed, and the cause told, where the file can't
+    // be read or a line is not understood.
     pub(crate) fn put_run<R: Env + Files, W: Write>(
         &self,
         rt: &R,
         to: &mut W,
-        out: &mut [u8],
+        pen: &mut Pen,
         i: usize,
-    ) -> usize {
+    ) {
         let mut word = [0u8; WORD_ROOM];
         let n = rt.arg(i, &mut word).unwrap_or(0);
-        let from = within(6, &word[..n]);
-        let name = &word[from..n];
+        let name = &word[n.min(6)..n];
         let mut file = [0u8; FILE_ROOM];
         match read_file(rt, name, &mut file) {
-            Ok(n) => self.put_rack(to, out, name, &file[..n]),
-            Err(cause) => {
-                report_unread(to, name, cause);
-                0
-            }
+            Ok(n) => self.put_rack(to, pen, name, &file[..n]),
+            Err(cause) => report_unread(to, name, cause),
         }
     }
 }

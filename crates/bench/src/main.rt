@@ -17,38 +17,34 @@ mod table;
 mod words;
 
 use boxes::Rack;
+use course::Run;
 use input::read_text;
-use pen::within;
-use recipes::printer::print_refusal;
+use pen::Pen;
 use recipes::reader::read;
 use recipes::translator::translate_array;
-use recipes::types::{Recipe, TEXT_MAX, is_nothing};
-use slips::put_slip;
+use recipes::types::{Listing, Recipe, TEXT_MAX, is_nothing};
+use slips::{put_refusal, put_slip};
 use std::env::Env;
 use std::io::Write;
 use std::rt::Files;
-use words::{Shown, Words, read_words, tell_failed};
+use table::Shown;
+use words::{View, Words, read_words, tell_failed};
 
-// A recipe that was read is always translated.
-fn put_run<R: Env + Files, W: Write>(
+fn put_run<'a, R: Env + Files, W: Write>(
     rt: &R,
     to: &mut W,
-    out: &mut [u8],
+    pen: &mut Pen,
     words: Words,
-    text: &[u8],
-    recipe: Recipe,
-) -> usize {
+    text: &'a [u8],
+    recipe: &'a Recipe,
+    made: &'a Listing,
+) {
     let asked = words.asked;
-    let made = translate_array(recipe);
-    match words.shown {
-        Shown::Table => table::put_run(out, asked, text, recipe, made),
-        Shown::Rows => rows::put_run(out, asked, made),
-        Shown::Boxes(i) => Rack {
-            asked,
-            recipe,
-            made,
-        }
-        .put_run(rt, to, out, i),
+    let run = Run { made, asked };
+    match words.view {
+        View::Table => Shown { text, recipe, run }.put(pen),
+        View::Rows => rows::put_run(pen, run),
+        View::Boxes(i) => Rack { recipe, run }.put_run(rt, to, pen, i),
     }
 }
 
@@ -58,24 +54,20 @@ fn put_run<R: Env + Files, W: Write>(
 const ROOM: usize = 65536;
 
 // The whole answer to a text.
-fn answer<R: Env + Files, W: Write>(
-    rt: &R,
-    to: &mut W,
-    out: &mut [u8],
-    words: Words,
-    text: &[u8],
-) -> usize {
+fn answer<R: Env + Files, W: Write>(rt: &R, to: &mut W, pen: &mut Pen, words: Words, text: &[u8]) {
     let reading = read(text);
     let refused = reading.refused;
-    let recipe = reading.recipe;
-    if !is_nothing(refused) {
-        let next = print_refusal(refused, out);
-        return match words.shown {
-            Shown::Rows => next,
-            Shown::Table | Shown::Boxes(_) => put_slip(out, next, text, refused),
-        };
+    if is_nothing(refused) {
+        // A recipe that was read is always translated.
+        let made = translate_array(reading.recipe);
+        put_run(rt, to, pen, words, text, &reading.recipe, &made);
+        return;
     }
-    put_run(rt, to, out, words, text, recipe)
+    put_refusal(pen, refused);
+    match words.view {
+        View::Rows => {}
+        View::Table | View::Boxes(_) => put_slip(pen, text, refused),
+    }
 }
 
 fn main(rt: HostRuntime) {
@@ -90,9 +82,9 @@ fn main(rt: HostRuntime) {
         return;
     }
     let mut out = [0u8; ROOM];
-    let n = answer(&rt, &mut told, &mut out, words, &text[..input.n]);
-    let n = within(n, &out);
-    if let Err(error) = rt.stdout().write_all(&out[..n]) {
+    let mut pen = Pen::new(&mut out);
+    answer(&rt, &mut told, &mut pen, words, &text[..input.n]);
+    if let Err(error) = rt.stdout().write_all(pen.written()) {
         tell_failed(&mut told, b"bench: standard output", error);
     }
 }

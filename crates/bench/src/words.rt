@@ -1,8 +1,7 @@
 // The words that the program is started with, and those of a box's line (boxes.rt).
 ghost use Rattle.std.specs.Prelude.{◌≤◌};
 
-use crate::pen::{at_start, within};
-use crate::slips::put_start;
+use crate::slips::Start;
 use alu::types::Flags;
 use input::{LINE_MAX, failure_line};
 use std::env::{Env, FillError};
@@ -47,7 +46,7 @@ impl Default for Asked {
 
 // What is printed: a table, plain rows, or a row for each box of the file that a word of the program names, which has this number.
 #[derive(Clone, Copy)]
-pub(crate) enum Shown {
+pub(crate) enum View {
     Table,
     Rows,
     Boxes(usize),
@@ -57,7 +56,7 @@ pub(crate) enum Shown {
 #[derive(Clone, Copy)]
 pub(crate) struct Words {
     pub asked: Asked,
-    pub shown: Shown,
+    pub view: View,
 }
 
 // Why a word is not taken.
@@ -220,11 +219,11 @@ impl Said {
     }
 
     // Plain rows are of one run, so that they do not go with boxes.
-    fn shown(&self) -> Option<Shown> {
+    fn view(&self) -> Option<View> {
         match (self.rows, self.boxes) {
-            (None, None) => Some(Shown::Table),
-            (None, Some(i)) => Some(Shown::Boxes(i)),
-            (Some(()), None) => Some(Shown::Rows),
+            (None, None) => Some(View::Table),
+            (None, Some(i)) => Some(View::Boxes(i)),
+            (Some(()), None) => Some(View::Rows),
             (Some(()), Some(_)) => None,
         }
     }
@@ -242,17 +241,10 @@ pub(crate) fn tell_failed<W: Write>(to: &mut W, what: &[u8], error: Error) {
     tell(to, &line[..n]);
 }
 
-// A word made visible, as a refused line is.
-fn tell_seen<W: Write>(to: &mut W, text: &[u8]) {
-    let pen = put_start(at_start(), text);
-    let n = within(pen.at, &pen.line);
-    tell(to, &pen.line[..n]);
-}
-
-// Says why a word was not taken, and what may stand there beside the words of a box. Where it stands is said before.
+// Says why a word was not taken, which is made visible as a refused line is, and what may stand there beside the words of a
+// box. Where it stands is said before.
 pub(crate) fn report<W: Write>(to: &mut W, word: &[u8], why: NotTaken, others: &str) {
-    tell_seen(to, word);
-    let _ = write!(to, " {why}");
+    let _ = write!(to, "{} {why}", Start(word));
     if why == NotTaken::Unknown {
         let _ = write!(
             to,
@@ -279,7 +271,7 @@ pub(crate) fn read_words<E: Env, W: Write>(env: &E, to: &mut W) -> Option<Words>
             return None;
         }
     }
-    let Some(shown) = said.shown() else {
+    let Some(view) = said.view() else {
         tell(
             to,
             b"bench: rows is not understood with boxes=FILE: it shows one run\n",
@@ -288,6 +280,6 @@ pub(crate) fn read_words<E: Env, W: Write>(env: &E, to: &mut W) -> Option<Words>
     };
     Some(Words {
         asked: said.asked(),
-        shown,
+        view,
     })
 }
