@@ -198,7 +198,7 @@ fn put_table(pen: &mut Pen, file: &[u8], count: usize, recipe: &Recipe, run: Run
     let mut halted = false;
     for k in 0..count {
         let ran = run_of(file, k, run);
-        put_row(pen, k as u64, width, ran);
+        put_row(pen, k as u64 + 1, width, ran);
         halted |= matches!(ran.end, End::Budget);
     }
     if halted {
