@@ -6,7 +6,7 @@ use recipes::lines::target;
 use recipes::types::{LINES_MAX, Recipe, Verb};
 
 // Of each line the number that a carry went out of, if one did.
-pub(crate) type Carries = [Option<u8>; LINES_MAX];
+type Carries = [Option<u8>; LINES_MAX];
 
 // Whether X behind a line of this verb is a carry or borrow out of its number. (X behind `neg` says that it was not 0.)
 fn carries(verb: Verb) -> bool {

@@ -1,10 +1,10 @@
 // How a run ended; of one that halted, the words to go on with.
-use crate::pen::{Counted, Pen, line_at};
+use crate::pen::{Counted, Pen};
 use alu::types::Flags;
 use std::fmt;
 use step::registers::State;
 use step::runs::{End, Ran, end_line};
-use step::steps::{class, number};
+use step::steps::{class as class_of, number as number_of};
 
 // The registers of a letter that are not 0, as words that the program takes, a blank before each.
 #[derive(Clone, Copy)]
@@ -58,14 +58,16 @@ pub(crate) struct Ended(pub End);
 
 impl fmt::Display for Ended {
     fn fmt<W: fmt::Write>(&self, f: &mut fmt::Formatter<W>) -> fmt::Result {
-        let long = f.alternate();
+        let (class, number) = if f.alternate() {
+            (" with class", " with number")
+        } else {
+            ("", "")
+        };
         match self.0 {
             End::Finished => write!(f, "Finished"),
             End::Budget => write!(f, "Budget"),
-            End::Trapped(trap, _, _) if long => write!(f, "Trapped with class {}", class(trap)),
-            End::Trapped(trap, _, _) => write!(f, "Trapped {}", class(trap)),
-            End::Refused(fault, _, _) if long => write!(f, "Refused with number {}", number(fault)),
-            End::Refused(fault, _, _) => write!(f, "Refused {}", number(fault)),
+            End::Trapped(trap, _, _) => write!(f, "Trapped{class} {}", class_of(trap)),
+            End::Refused(fault, _, _) => write!(f, "Refused{number} {}", number_of(fault)),
         }
     }
 }
@@ -80,9 +82,9 @@ fn end_place(ran: Ran) -> usize {
 
 // A text line that an end tells, counted from 1, with what stands there; 0 is none.
 fn put_told(pen: &mut Pen, text: &[u8], line: u8) {
-    if let Some(k) = line.checked_sub(1) {
-        write!(pen, ", line {line} ");
-        pen.put_line(line_at(text, usize::from(k)));
+    if line != 0 {
+        write!(pen, ", line {line}");
+        pen.put_text_line(text, line);
     }
 }
 

@@ -31,11 +31,8 @@ pub(crate) struct Number<'a>(pub &'a [u32]);
 
 impl Number<'_> {
     pub(crate) fn value(&self) -> u128 {
-        let mut value = 0;
-        for long in self.0.iter().rev() {
-            value = value << 32 | u128::from(*long);
-        }
-        value
+        let longs = self.0.iter().rev();
+        longs.fold(0, |value, long| value << 32 | u128::from(*long))
     }
 }
 

@@ -40,9 +40,10 @@ impl<'a> Pen<'a> {
         }
     }
 
-    // A line of a text, with blanks for tabs.
-    pub(crate) fn put_line(&mut self, line: &[u8]) {
-        for b in line {
+    // A blank, and what stands in a line of a text, counted from 1: with blanks for its tabs.
+    pub(crate) fn put_text_line(&mut self, text: &[u8], line: u8) {
+        self.put_byte(b' ');
+        for b in line_at(text, usize::from(line).saturating_sub(1)) {
             self.put_byte(if *b == TAB { b' ' } else { *b });
         }
     }

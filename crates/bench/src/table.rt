@@ -4,7 +4,7 @@ use crate::carry::put_carries;
 use crate::course::{Done, Run, line_of};
 use crate::ending::{Settings, put_ending};
 use crate::numbers::{Number, longs_of, put_numbering};
-use crate::pen::{Bits, Counted, NEWLINE, Pen, TAB, line_at};
+use crate::pen::{Bits, Counted, NEWLINE, Pen, TAB};
 use alu::types::Flags;
 use recipes::lines::target;
 use recipes::printer::print_step;
@@ -50,12 +50,12 @@ impl fmt::Display for Sizes {
     }
 }
 
-// The heading of the columns.
+// The heading of the columns, up to the value's, which stands behind the words.
+const HEADING: &[u8] =
+    b"place  step          line         changed      X N Z V C  clocks  number  words";
+
 fn put_heading(pen: &mut Pen, width: u8) {
-    write!(
-        pen,
-        "place  step          line         changed      X N Z V C  clocks  number  words"
-    );
+    pen.put(HEADING);
     pen.tab(WORDS + 1 + 9 * usize::from(width));
     writeln!(pen, "value");
 }
@@ -89,7 +89,7 @@ fn put_step(pen: &mut Pen, place: usize, step: Step) {
     let mut line = [0u8; STEP_ROOM];
     print_step(place as u64, step, &mut line);
     pen.put_right(PLACE, place as u64);
-    let fields = line.split(|b| (*b == TAB) | (*b == NEWLINE));
+    let fields = line.split(|b| matches!(*b, TAB | NEWLINE));
     for (column, field) in STEP.iter().zip(fields.skip(1)) {
         pen.tab(*column);
         pen.put(field);
@@ -99,13 +99,11 @@ fn put_step(pen: &mut Pen, place: usize, step: Step) {
 // The first register that differs, with its new value.
 fn put_changed(pen: &mut Pen, before: &[u32; 8], after: &[u32; 8]) {
     pen.tab(CHANGED);
-    for (r, value) in after.iter().enumerate() {
-        if before[r] != *value {
-            write!(pen, "D{r} {value:08X}");
-            return;
-        }
+    let mut registers = before.iter().zip(after).enumerate();
+    match registers.find(|(_, (old, new))| old != new) {
+        Some((r, (_, value))) => write!(pen, "D{r} {value:08X}"),
+        None => write!(pen, "-"),
     }
-    write!(pen, "-");
 }
 
 // What is shown: a run of a recipe, beside its text.
@@ -119,20 +117,20 @@ pub(crate) struct Shown<'a> {
 impl Shown<'_> {
     // What stands above the start.
     fn put_top(&self, pen: &mut Pen) {
-        let Recipe { width, count, .. } = *self.recipe;
-        let a = self.run.asked.state.a;
+        let Recipe {
+            width,
+            count: lines,
+            ..
+        } = *self.recipe;
         let steps = self.run.made.count;
-        let lines = count;
-        writeln!(
-            pen,
-            "{}",
-            Sizes {
-                width,
-                lines,
-                steps
-            }
-        );
+        let sizes = Sizes {
+            width,
+            lines,
+            steps,
+        };
+        writeln!(pen, "{sizes}");
         put_numbering(pen, width);
+        let a = self.run.asked.state.a;
         if a != [0; 8] {
             let set = Settings('A', a);
             writeln!(pen, "address registers, which no step changes:{set}");
@@ -144,8 +142,7 @@ impl Shown<'_> {
     // A text line: its number, from 1, and what stands there.
     fn put_text(&self, pen: &mut Pen, line: u8) {
         pen.put_right(LINE + 2, u64::from(line));
-        write!(pen, " ");
-        pen.put_line(line_at(self.text, usize::from(line).saturating_sub(1)));
+        pen.put_text_line(self.text, line);
     }
 
     // The row of a step.
