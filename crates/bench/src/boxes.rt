@@ -177,22 +177,9 @@ fn put_row(pen: &mut Pen, number: u64, width: u8, ran: Ran) {
 
 // The whole table: a row for each box, and where some box was halted, an empty line, and a file to go on with.
 fn put_table(pen: &mut Pen, file: &[u8], count: usize, recipe: &Recipe, run: Run) {
-    let Recipe {
-        width,
-        count: lines,
-        ..
-    } = *recipe;
-    let steps = run.made.count;
+    let width = recipe.width;
     let end = if count == 1 { "" } else { "es" };
-    writeln!(
-        pen,
-        "{}, {count} box{end}",
-        Sizes {
-            width,
-            lines,
-            steps
-        }
-    );
+    writeln!(pen, "{}, {count} box{end}", Sizes(recipe, run.made.count));
     put_numbering(pen, width);
     writeln!(pen, "\n{}", heading(width));
     let mut halted = false;
