@@ -136,18 +136,10 @@ impl Rack<'_> {
 
     // The whole table.
     fn put_table(&self, pen: &mut Pen, runs: &[Ran]) {
-        let Recipe {
-            width,
-            count: lines,
-            ..
-        } = *self.recipe;
-        let sizes = Sizes {
-            width,
-            lines,
-            steps: self.run.made.count,
-        };
+        let width = self.recipe.width;
         let boxes = runs.len();
         let end = if boxes == 1 { "" } else { "es" };
+        let sizes = Sizes(self.recipe, self.run.made.count);
         writeln!(pen, "{sizes}, {boxes} box{end}");
         put_numbering(pen, width);
         writeln!(pen, "\n{}", heading(width));

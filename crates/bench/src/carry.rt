@@ -1,6 +1,6 @@
 // Carries that went out of a number on the way: the X that an add, sub or up line left behind its last step. Of the recipe's
 // last line the table's end row has it; of any other the next line makes another X, and it is told here.
-use crate::course::{Run, line_of};
+use crate::course::{Done, Run, line_of};
 use crate::pen::Pen;
 use recipes::lines::target;
 use recipes::types::{LINES_MAX, Recipe, Verb};
@@ -13,16 +13,15 @@ fn carries(verb: Verb) -> bool {
     matches!(verb, Verb::Add | Verb::Sub | Verb::Up)
 }
 
-// The carries of the lines of a recipe, other than its last, that were ended in a run.
+// Of the lines of a recipe, other than its last, that were ended in a run.
 fn carried(recipe: &Recipe, run: Run) -> Carries {
     let mut out = [None; LINES_MAX];
-    for done in run.steps() {
-        let k = line_of(done.step);
+    for Done { step, after, .. } in run.steps() {
+        let ended = run.text_line_at(after.next) != Some(step.line);
+        let k = line_of(step);
         let line = recipe.lines[k];
-        let ended = run.line_at(done.after.next) != Some(done.step.line);
-        if ended && k + 1 < recipe.count {
-            let carry = done.after.state.flags.x && carries(line.verb);
-            out[k] = carry.then_some(target(line));
+        if ended && k + 1 < recipe.count && after.state.flags.x && carries(line.verb) {
+            out[k] = Some(target(line));
         }
     }
     out

@@ -40,7 +40,7 @@ impl<'a> Run<'a> {
     }
 
     // The text line of the step at a place, if there is one.
-    pub(crate) fn line_at(&self, place: usize) -> Option<u8> {
+    pub(crate) fn text_line_at(&self, place: usize) -> Option<u8> {
         self.made.steps.get(place).map(|step| step.line)
     }
 }

@@ -1,4 +1,6 @@
 // Writing text by lines and columns into a lent slice, by `write!` and `writeln!`. What has no room is left off.
+ghost use Rattle.std.specs.Prelude.{◌≤◌, length};
+
 use alu::types::Flags;
 use std::fmt;
 pub(crate) use text::types::{NEWLINE, TAB};
@@ -9,6 +11,8 @@ pub(crate) struct Pen<'a> {
     out: &'a mut [u8],
     at: usize,
     line: usize,
+    ghost begun: { line ≤ at },
+    ghost inside: { at ≤ length out.now },
 }
 
 impl<'a> Pen<'a> {
@@ -21,7 +25,7 @@ impl<'a> Pen<'a> {
     }
 
     pub(crate) fn written(&self) -> &[u8] {
-        self.out.get(..self.at).unwrap_or(&[])
+        &self.out[..self.at]
     }
 
     fn put_byte(&mut self, b: u8) {
@@ -50,7 +54,7 @@ impl<'a> Pen<'a> {
 
     // The column that is reached, from 0.
     pub(crate) fn column(&self) -> usize {
-        self.at.saturating_sub(self.line)
+        self.at - self.line
     }
 
     // Blanks up to a column of the line; none where it is reached.

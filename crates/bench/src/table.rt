@@ -33,19 +33,15 @@ const NUMBER: usize = 72;
 
 const WORDS: usize = 74;
 
-// What a recipe is, and into how many steps it is translated.
+// A recipe's width and lines, and the number of its steps.
 #[derive(Clone, Copy)]
-pub(crate) struct Sizes {
-    pub width: u8,
-    pub lines: usize,
-    pub steps: usize,
-}
+pub(crate) struct Sizes<'a>(pub &'a Recipe, pub usize);
 
-impl fmt::Display for Sizes {
+impl fmt::Display for Sizes<'_> {
     fn fmt<W: fmt::Write>(&self, f: &mut fmt::Formatter<W>) -> fmt::Result {
-        let width = self.width;
-        let lines = Counted(self.lines as u64, "line");
-        let steps = Counted(self.steps as u64, "step");
+        let width = self.0.width;
+        let lines = Counted(self.0.count as u64, "line");
+        let steps = Counted(self.1 as u64, "step");
         write!(f, "width {width}, {lines}, {steps}")
     }
 }
@@ -117,18 +113,8 @@ pub(crate) struct Shown<'a> {
 impl Shown<'_> {
     // What stands above the start.
     fn put_top(&self, pen: &mut Pen) {
-        let Recipe {
-            width,
-            count: lines,
-            ..
-        } = *self.recipe;
-        let steps = self.run.made.count;
-        let sizes = Sizes {
-            width,
-            lines,
-            steps,
-        };
-        writeln!(pen, "{sizes}");
+        let width = self.recipe.width;
+        writeln!(pen, "{}", Sizes(self.recipe, self.run.made.count));
         put_numbering(pen, width);
         let a = self.run.asked.state.a;
         if a != [0; 8] {
@@ -147,14 +133,11 @@ impl Shown<'_> {
 
     // The row of a step.
     fn put_row(&self, pen: &mut Pen, done: Done) {
-        let Done {
-            step,
-            before,
-            after,
-        } = done;
-        put_step(pen, before.next, step);
+        let step = done.step;
+        let after = done.after;
+        put_step(pen, done.before.next, step);
         self.put_text(pen, step.line);
-        put_changed(pen, &before.state.d, &after.state.d);
+        put_changed(pen, &done.before.state.d, &after.state.d);
         put_flags_and_clocks(pen, after.state.flags, after.clocks);
         let k = usize::from(target(self.recipe.lines[line_of(step)]));
         let mut numbers = after.state.d.chunks(longs_of(self.recipe.width));
