@@ -6,7 +6,8 @@ ghost use Rattle.recipes.specs.Recipe.{lines_max};
 use crate::words::Asked;
 use recipes::types::{LINES_MAX, Listing};
 use step::forms::Step;
-use step::runs::{Ran, begun, resumed, run_array};
+use step::lent::run;
+use step::runs::{Ran, begun, resumed};
 
 // A listing, and what is asked of it.
 #[derive(Clone, Copy)]
@@ -27,7 +28,7 @@ impl<'a> Run<'a> {
             steps,
             ..
         } = self.asked;
-        run_array(self.made.steps, self.made.count, state, from, steps)
+        run(self.made.steps(), state, from, steps)
     }
 
     // One step after the other.
@@ -41,7 +42,7 @@ impl<'a> Run<'a> {
 
     // The text line of the step at a place, if there is one.
     pub(crate) fn text_line_at(&self, place: usize) -> Option<u8> {
-        self.made.steps.get(place).map(|step| step.line)
+        self.made.steps().get(place).map(|step| step.line)
     }
 }
 
@@ -69,8 +70,8 @@ impl Iterator for Steps<'_> {
     fn next(&mut self) -> Option<Done> {
         let left = self.left.checked_sub(1)?;
         let before = self.ran;
-        let step = *self.made.steps.get(before.next)?;
-        let after = resumed(self.made.steps, self.made.count, before, 1);
+        let step = *self.made.steps().get(before.next)?;
+        let after = resumed(self.made.steps(), before, 1);
         self.ran = after;
         self.left = left;
         Some(Done {

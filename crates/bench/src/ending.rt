@@ -3,8 +3,7 @@ use crate::pen::{Counted, Pen};
 use alu::types::Flags;
 use std::fmt;
 use step::registers::State;
-use step::runs::{End, Ran, end_line};
-use step::steps::{class as class_of, number as number_of};
+use step::runs::{End, Ran};
 
 // The registers of a letter that are not 0, as words that the program takes, a blank before each.
 #[derive(Clone, Copy)]
@@ -46,9 +45,8 @@ impl fmt::Display for GoOn {
     fn fmt<W: fmt::Write>(&self, f: &mut fmt::Formatter<W>) -> fmt::Result {
         let from = self.0.next;
         let State { d, a, flags } = self.0.state;
-        write!(f, "from={from}")?;
-        write!(f, "{}{}", Settings('D', d), Settings('A', a))?;
-        write!(f, "{}", SetFlags(flags))
+        let (d, a) = (Settings('D', d), Settings('A', a));
+        write!(f, "from={from}{d}{a}{}", SetFlags(flags))
     }
 }
 
@@ -66,8 +64,8 @@ impl fmt::Display for Ended {
         match self.0 {
             End::Finished => write!(f, "Finished"),
             End::Budget => write!(f, "Budget"),
-            End::Trapped(trap, _, _) => write!(f, "Trapped{class} {}", class_of(trap)),
-            End::Refused(fault, _, _) => write!(f, "Refused{number} {}", number_of(fault)),
+            End::Trapped(trap, _, _) => write!(f, "Trapped{class} {}", u32::from(trap)),
+            End::Refused(fault, _, _) => write!(f, "Refused{number} {}", u32::from(fault)),
         }
     }
 }
@@ -91,7 +89,7 @@ fn put_told(pen: &mut Pen, text: &[u8], line: u8) {
 // How a run ended, and where it can go on, how.
 pub(crate) fn put_ending(pen: &mut Pen, text: &[u8], ran: Ran) {
     write!(pen, "{:#} at place {}", Ended(ran.end), end_place(ran));
-    put_told(pen, text, end_line(ran.end));
+    put_told(pen, text, ran.end.line());
     let steps = Counted(u64::from(ran.steps), "step");
     writeln!(pen, ": {steps}, {}", Counted(ran.clocks, "clock"));
     if let End::Budget = ran.end {

@@ -4,7 +4,6 @@ use crate::course::Run;
 use crate::pen::{Bits, Pen};
 use step::registers::State;
 use step::runs::{End, Ran};
-use step::steps::number;
 
 fn put_row(pen: &mut Pen, ran: Ran) {
     let State { d, a, flags } = ran.state;
@@ -17,7 +16,7 @@ fn put_row(pen: &mut Pen, ran: Ran) {
 
 pub(crate) fn put_run(pen: &mut Pen, run: Run) {
     if let End::Refused(fault, place, _) = run.whole().end {
-        writeln!(pen, "refused\t{}\t{place}", number(fault));
+        writeln!(pen, "refused\t{}\t{place}", u32::from(fault));
         return;
     }
     put_row(pen, run.not_begun());

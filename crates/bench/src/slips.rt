@@ -96,7 +96,7 @@ fn advice(refusal: Refusal) -> &'static str {
             "Put a line end here, as behind every line. Only the first 1,024 bytes of a text are read."
         }
         // No text is refused so.
-        Refusal::Nothing | Refusal::NoSpace => "",
+        Refusal::NoSpace => "",
     }
 }
 
