@@ -15,7 +15,7 @@ use std::env::Env;
 use std::fs::File;
 use std::io::{Error, ErrorKind, Write};
 use std::rt::Files;
-use step::racks::{BOXES_MAX, number, plan};
+use step::racks::{BOXES_MAX, plan};
 use step::runs::{End, Ran};
 
 // The most bytes of a file: as many lines as a rack has boxes, of 255 bytes and a line end. `report_unread` has both written out.
@@ -125,11 +125,11 @@ fn put_halted(pen: &mut Pen, runs: &[Ran]) {
 impl Rack<'_> {
     // The run of each line's box; as many as there is room for.
     fn run_lines<'a>(&self, file: &'a [u8], runs: &mut [Ran]) -> Result<(), BadLine<'a>> {
-        let Run { made, asked } = self.run;
+        let Run { listing, asked } = self.run;
         let lines = file.split_inclusive(|b| *b == NEWLINE);
         for (number, (line, ran)) in (1..).zip(lines.zip(runs)) {
             let asked = read_line(line, asked).map_err(|bad| BadLine { number, bad })?;
-            *ran = Run { made, asked }.whole();
+            *ran = Run { listing, asked }.whole();
         }
         Ok(())
     }
@@ -139,7 +139,7 @@ impl Rack<'_> {
         let width = self.recipe.width;
         let boxes = runs.len();
         let end = if boxes == 1 { "" } else { "es" };
-        let sizes = Sizes(self.recipe, self.run.made.count);
+        let sizes = Sizes(self.recipe, self.run.listing.len());
         writeln!(pen, "{sizes}, {boxes} box{end}");
         put_numbering(pen, width);
         writeln!(pen, "\n{}", heading(width));
@@ -154,24 +154,25 @@ impl Rack<'_> {
     // The boxes are counted before their words are looked at; each has a start place and a row.
     fn put_rack<W: Write>(&self, to: &mut W, pen: &mut Pen, name: &[u8], file: &[u8]) {
         let count = count_lines(file);
-        let racked = plan(count, count, count);
-        let refusal = number(racked.fit);
-        if refusal != 0 {
-            writeln!(pen, "refused\t{refusal}");
-            // It has `BOXES_MAX` written out.
-            writeln!(pen, "Cut the file in two: a rack has at most 64 boxes.");
-            return;
-        }
+        let boxes = match plan(count, count, count) {
+            Ok(boxes) => boxes,
+            Err(refusal) => {
+                writeln!(pen, "refused\t{}", u8::from(refusal));
+                // It has `BOXES_MAX` written out.
+                writeln!(pen, "Cut the file in two: a rack has at most 64 boxes.");
+                return;
+            }
+        };
         let mut room = [self.run.not_begun(); BOXES_MAX];
-        let runs = &mut room[..racked.boxes];
+        let runs = &mut room[..boxes];
         match self.run_lines(file, runs) {
             Ok(()) => self.put_table(pen, runs),
             Err(refused) => report_line(to, name, refused),
         }
     }
 
-    // Word i of the program names the file, behind six bytes. Nothing is printed, and the cause told, where the file can't
-    // be read or a line is not understood.
+    // Word i of the program names the file. Nothing is printed, and the cause told, where the file can't be read or a line
+    // is not understood.
     pub(crate) fn put_run<R: Env + Files, W: Write>(
         &self,
         rt: &R,
@@ -181,7 +182,7 @@ impl Rack<'_> {
     ) {
         let mut word = [0u8; WORD_ROOM];
         let n = rt.arg(i, &mut word).unwrap_or(0);
-        let name = &word[n.min(6)..n];
+        let name = word[..n].strip_prefix(b"boxes=").unwrap_or(&[]);
         let mut file = [0u8; FILE_ROOM];
         match read_file(rt, name, &mut file) {
             Ok(n) => self.put_rack(to, pen, name, &file[..n]),
@@ -204,11 +205,7 @@ fn open_and_read<R: Files>(files: &R, name: &[u8], file: &mut [u8]) -> Result<us
 {
     let path = str::from_utf8(name).map_err(|_| Error::from(ErrorKind::InvalidFilename))?;
     let mut opened = File::open(files, path)?;
-    let input = read_text(&mut opened, file);
-    match input.failed {
-        Some(error) => Err(error),
-        None => Ok(input.n),
-    }
+    read_text(&mut opened, file).map_err(|failed| failed.error)
 }
 
 fn read_file<R: Files>(files: &R, name: &[u8], file: &mut [u8]) -> Result<usize, Unread>

@@ -4,15 +4,15 @@ ghost use Rattle.std.specs.Iterator.{at_most};
 ghost use Rattle.recipes.specs.Recipe.{lines_max};
 
 use crate::words::Asked;
-use recipes::types::{LINES_MAX, Listing};
+use recipes::types::LINES_MAX;
 use step::forms::Step;
 use step::lent::run;
 use step::runs::{Ran, begun, resumed};
 
-// A listing, and what is asked of it.
+// A listing's steps, and what is asked of them.
 #[derive(Clone, Copy)]
 pub(crate) struct Run<'a> {
-    pub made: &'a Listing,
+    pub listing: &'a [Step],
     pub asked: Asked,
 }
 
@@ -22,19 +22,14 @@ impl<'a> Run<'a> {
     }
 
     pub(crate) fn whole(&self) -> Ran {
-        let Asked {
-            state,
-            from,
-            steps,
-            ..
-        } = self.asked;
-        run(self.made.steps(), state, from, steps)
+        let Asked { state, from, steps } = self.asked;
+        run(self.listing, state, from, steps)
     }
 
     // One step after the other.
     pub(crate) fn steps(&self) -> Steps<'a> {
         Steps {
-            made: self.made,
+            listing: self.listing,
             ran: self.not_begun(),
             left: self.whole().steps,
         }
@@ -42,7 +37,7 @@ impl<'a> Run<'a> {
 
     // The text line of the step at a place, if there is one.
     pub(crate) fn text_line_at(&self, place: usize) -> Option<u8> {
-        self.made.steps().get(place).map(|step| step.line)
+        self.listing.get(place).map(|step| step.line)
     }
 }
 
@@ -57,7 +52,7 @@ pub(crate) struct Done {
 // The steps that are still to be done, from where a run halted.
 #[derive(Clone, Copy)]
 pub(crate) struct Steps<'a> {
-    made: &'a Listing,
+    listing: &'a [Step],
     ran: Ran,
     left: u32,
 }
@@ -70,8 +65,8 @@ impl Iterator for Steps<'_> {
     fn next(&mut self) -> Option<Done> {
         let left = self.left.checked_sub(1)?;
         let before = self.ran;
-        let step = *self.made.steps().get(before.next)?;
-        let after = resumed(self.made.steps(), before, 1);
+        let step = *self.listing.get(before.next)?;
+        let after = resumed(self.listing, before, 1);
         self.ran = after;
         self.left = left;
         Some(Done {

@@ -22,11 +22,12 @@ use input::read_text;
 use pen::Pen;
 use recipes::reader::read;
 use recipes::translator::translate_array;
-use recipes::types::{Listing, Recipe, TEXT_MAX, is_nothing};
+use recipes::types::{Listing, Recipe, Refused, TEXT_MAX};
 use slips::{put_refusal, put_slip};
 use std::env::Env;
 use std::io::Write;
 use std::rt::Files;
+use step::forms::Step;
 use table::Shown;
 use words::{View, Words, read_words, tell_failed};
 
@@ -37,10 +38,10 @@ fn put_run<'a, R: Env + Files, W: Write>(
     words: Words,
     text: &'a [u8],
     recipe: &'a Recipe,
-    made: &'a Listing,
+    listing: &'a [Step],
 ) {
     let asked = words.asked;
-    let run = Run { made, asked };
+    let run = Run { listing, asked };
     match words.view {
         View::Table => Shown { text, recipe, run }.put(pen),
         View::Rows => rows::put_run(pen, run),
@@ -53,20 +54,23 @@ fn put_run<'a, R: Env + Files, W: Write>(
 // words of at most 228, and less than 1,000 bytes above them.
 const ROOM: usize = 65536;
 
+// A text's recipe and its listing. A recipe that was read is always translated.
+fn translated(text: &[u8]) -> Result<(Recipe, Listing), Refused> {
+    let recipe = read(text)?;
+    let listing = translate_array(recipe)?;
+    Ok((recipe, listing))
+}
+
 // The whole answer to a text.
 fn answer<R: Env + Files, W: Write>(rt: &R, to: &mut W, pen: &mut Pen, words: Words, text: &[u8]) {
-    let reading = read(text);
-    let refused = reading.refused;
-    if is_nothing(refused) {
-        // A recipe that was read is always translated.
-        let made = translate_array(reading.recipe);
-        put_run(rt, to, pen, words, text, &reading.recipe, &made);
-        return;
-    }
-    put_refusal(pen, refused);
-    match words.view {
-        View::Rows => {}
-        View::Table | View::Boxes(_) => put_slip(pen, text, refused),
+    match translated(text) {
+        Ok((recipe, listing)) => put_run(rt, to, pen, words, text, &recipe, listing.steps()),
+        Err(refused) => {
+            put_refusal(pen, refused);
+            if !matches!(words.view, View::Rows) {
+                put_slip(pen, text, refused);
+            }
+        }
     }
 }
 
@@ -76,14 +80,16 @@ fn main(rt: HostRuntime) {
         return;
     };
     let mut text = [0u8; TEXT_MAX];
-    let input = read_text(&mut rt.stdin(), &mut text);
-    if let Some(error) = input.failed {
-        tell_failed(&mut told, b"bench: standard input", error);
-        return;
-    }
+    let n = match read_text(&mut rt.stdin(), &mut text) {
+        Ok(n) => n,
+        Err(failed) => {
+            tell_failed(&mut told, b"bench: standard input", failed.error);
+            return;
+        }
+    };
     let mut out = [0u8; ROOM];
     let mut pen = Pen::new(&mut out);
-    answer(&rt, &mut told, &mut pen, words, &text[..input.n]);
+    answer(&rt, &mut told, &mut pen, words, &text[..n]);
     if let Err(error) = rt.stdout().write_all(pen.written()) {
         tell_failed(&mut told, b"bench: standard output", error);
     }

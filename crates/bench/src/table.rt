@@ -114,7 +114,7 @@ impl Shown<'_> {
     // What stands above the start.
     fn put_top(&self, pen: &mut Pen) {
         let width = self.recipe.width;
-        writeln!(pen, "{}", Sizes(self.recipe, self.run.made.count));
+        writeln!(pen, "{}", Sizes(self.recipe, self.run.listing.len()));
         put_numbering(pen, width);
         let a = self.run.asked.state.a;
         if a != [0; 8] {
