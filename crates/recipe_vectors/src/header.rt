@@ -6,7 +6,8 @@
 // `tools/recipe-vectors` makes vectors. Flags are X 16, N 8, Z 4, V 2, C 1.
 ghost use Rattle.std.specs.Prelude.{◌+◌, ◌<◌, ◌≤◌};
 
-use alu::types::{Flags, flags_of};
+use alu::types::{Flags, ccr, flags_of};
+use recipes::types::Codes;
 use step::registers::State;
 use text::numbers::hex_of;
 use text::types::{Hex, NEWLINE, TAB};
@@ -19,12 +20,32 @@ const FIELD: usize = 9;
 // A header's bytes.
 pub(crate) const LENGTH: usize = FIELDS * FIELD;
 
+// Flags as a packed byte: X alone, and all five.
+const ONLY_X: u8 = 0x10;
+
+const ALL: u8 = 0x1f;
+
 // What ought to stand at a place: data registers, flags and which of them count.
 #[derive(Clone, Copy)]
 pub(crate) struct Told {
     pub data: [u32; 8],
     pub flags: Flags,
     pub promised: Flags,
+}
+
+impl Told {
+    // Only the promised flags are compared.
+    pub(crate) fn same_flags(&self, flags: Flags) -> bool {
+        (ccr(flags) ^ ccr(self.flags)) & ccr(self.promised) == 0
+    }
+
+    // All five flags are told where all are promised, and left open where only X is.
+    pub(crate) fn same_codes(&self, codes: Codes) -> bool {
+        match codes {
+            Codes::Open => ccr(self.promised) == ONLY_X,
+            Codes::Known(flags) => ccr(self.promised) == ALL && self.same_flags(flags),
+        }
+    }
 }
 
 // The state that a recipe is run on, and what it ought to give: steps, clocks and what stands at the end and at the middle, a place

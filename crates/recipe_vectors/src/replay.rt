@@ -2,14 +2,14 @@
 // run as a whole.
 ghost use Rattle.std.specs.Prelude.{◌≤◌};
 
-use crate::header::{Told, Vector};
-use alu::types::Flags;
+use crate::header::Vector;
 use recipes::reader::read;
 use recipes::runner::run_text;
 use recipes::translator::translate_array;
-use recipes::types::{Codes, RecipeRun, is_nothing};
+use recipes::types::{RecipeRun, is_nothing};
 use std::fmt;
 use step::forms::Step;
+use step::registers::State;
 use step::runs::{End, Ran, SLOTS, begun, resumed};
 
 // What is not as it ought to be.
@@ -61,31 +61,6 @@ impl Slip {
     }
 }
 
-impl Told {
-    // Only the promised flags are compared.
-    fn same_flags(&self, flags: Flags) -> bool {
-        let Told {
-            flags: wanted,
-            promised,
-            ..
-        } = *self;
-        (!promised.x | (flags.x == wanted.x))
-            & (!promised.n | (flags.n == wanted.n))
-            & (!promised.z | (flags.z == wanted.z))
-            & (!promised.v | (flags.v == wanted.v))
-            & (!promised.c | (flags.c == wanted.c))
-    }
-
-    // All five flags are told where all are promised, and left open where only X is.
-    fn same_codes(&self, codes: Codes) -> bool {
-        let Flags { x, n, z, v, c } = self.promised;
-        match codes {
-            Codes::Open => x & !(n | z | v | c),
-            Codes::Known(flags) => x & n & z & v & c & self.same_flags(flags),
-        }
-    }
-}
-
 // A vector, and the listing of its recipe.
 #[derive(Clone, Copy)]
 struct Case<'a> {
@@ -115,17 +90,18 @@ impl Case<'_> {
         ended && ran.next == place as usize && ran.steps == place
     }
 
+    // Whether a state is as told of the middle.
+    fn is_there(&self, state: &State) -> bool {
+        let there = &self.vector.there;
+        state.d == there.data && state.a == self.vector.before.a && there.same_flags(state.flags)
+    }
+
     // A run that ought to have halted at the place; what stands there is told only of the middle.
     fn judge_halt(&self, ran: &Ran, place: u32) -> Result<(), Slip> {
         if !self.stands_at(ran, place) {
             return Err(Slip::Halt);
         }
-        let there = &self.vector.there;
-        let state = &ran.state;
-        let as_told = state.d == there.data
-            && state.a == self.vector.before.a
-            && there.same_flags(state.flags);
-        if place == self.vector.middle && !as_told {
+        if place == self.vector.middle && !self.is_there(&ran.state) {
             return Err(Slip::Middle);
         }
         Ok(())
