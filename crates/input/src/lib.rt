@@ -1,54 +1,46 @@
 // Standard input, and a file that is open, as the programs read them; and the line that tells a read or a write that failed.
 #![tactic(auto)]
 
-ghost use Rattle.std.specs.Prelude.{◌≡◌, ◌≤◌, length};
+ghost use Rattle.std.specs.Prelude.{MatchResult};
 ghost use Rattle.io.specs.Counts.{IsPrefixLen};
 
 use std::io::{Error, Read, Write};
+use text::parts::first;
 use text::writers::{put_byte, put_bytes};
 
-// So many bytes were read; `failed` is the error where a read failed.
-#[derive(Clone, Copy)]
-pub struct Input {
+// A read failed, with so many bytes read before it.
+#[derive(Clone, Copy, Debug)]
+pub struct ReadFailed {
     pub n: usize,
-    pub failed: Option<Error>,
+    pub error: Error,
 }
 
-// Reads until `text` is full or the input ends, in as many pieces as it comes. What is read no contract can say.
-pub fn read_text<R: Read>(from: &mut R, text: &mut [u8]) -> Input
-    ensures { IsPrefixLen result.n text.new }
+// Reads until `text` is full or the input ends, in as many pieces as it comes; how many bytes were read. What is read no
+// contract can say.
+pub fn read_text<R: Read>(from: &mut R, text: &mut [u8]) -> Result<usize, ReadFailed>
+    ensures { MatchResult result (λ n. IsPrefixLen n text.new) (λ failed. IsPrefixLen failed.n text.new) }
 {
-    let mut at = 0;
-    while at < text.len() {
-        match from.read(&mut text[at..]) {
+    let mut n = 0;
+    while n < text.len() {
+        match from.read(&mut text[n..]) {
             Ok(0) => break,
-            Ok(n) => at += n,
-            Err(error) => {
-                return Input {
-                    n: at,
-                    failed: Some(error),
-                };
-            }
+            Ok(more) => n += more,
+            Err(error) => return Err(ReadFailed { n, error }),
         }
     }
-    Input {
-        n: at,
-        failed: None,
-    }
+    Ok(n)
 }
 
 // Where an error's words end, of a text with zeros behind it: the system's number for the error is left off.
 fn words_end(text: &[u8]) -> usize
     ensures { IsPrefixLen result text.now }
 {
-    let mut at = 0;
-    while at < text.len() {
-        if (text[at] == 0) | text[at..].starts_with(b" (os error ") {
-            return at;
-        }
-        at += 1;
-    }
-    at
+    let end = first(text, 0);
+    let number = b" (os error ".as_slice();
+    text[..end]
+        .windows(number.len())
+        .position(|part| part == number)
+        .unwrap_or(end)
 }
 
 // Room for what failed, which is at most a file's name of 1,024 bytes, and the error's words.

@@ -21,8 +21,7 @@ use Rattle.recipes.specs.declared.types.Refusal.TheVariants.{TooManyLines, Width
 use Rattle.recipes.specs.declared.types.Refused.{Refused}
 use Rattle.recipes.specs.declared.reader.LineRead.{LineRead}
 use Rattle.recipes.specs.declared.reader.LineRead.TheVariants.{Read, Slip}
-use Rattle.text.specs.declared.types.Digit.{Digit}
-use Rattle.text.specs.declared.types.Digit.TheVariants.{Is, Bad}
+use Rattle.std.specs.Prelude.{Option, Some, None}
 use Rattle.text.specs.Text.{ascii, same_bytes, before, after}
 use Rattle.recipes.specs.Recipe.{lines_max, passes, at_line, no_refusal, is_nothing, is_width, recipe_lines, unused, line_refusal, Names, Accepted}
 use Rattle.recipes.specs.Reader.{refused_at, verb_of, past, only_digit, fields_of, line_checked, then_checked, line_of, or_slip, lines_of, width_digit, width_line, from_first, read_of}
@@ -106,9 +105,9 @@ lines_sound w ls row (next ∷ more) i h a =
             choose (no k) = omega arith
 
 -- the width line
-digit_width : (d : Digit) → (width_digit d ≡ 0 → ⊥) → is_width (width_digit d) ≡ true
-digit_width Bad n = absurd (n refl)
-digit_width (Is d) n = go (is_width d) refl n
+digit_width : (d : Option ℕ) → (width_digit d ≡ 0 → ⊥) → is_width (width_digit d) ≡ true
+digit_width None n = absurd (n refl)
+digit_width (Some d) n = go (is_width d) refl n
   where
     go : (t : Bool) → is_width d ≡ t → (cond t d 0 ≡ 0 → ⊥) → is_width (cond t d 0) ≡ true
     go true e n = e

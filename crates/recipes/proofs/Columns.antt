@@ -17,8 +17,7 @@ use Rattle.recipes.specs.declared.types.Refusal.TheVariants.{Nothing, WidthLine,
 use Rattle.recipes.specs.declared.types.Refused.{Refused}
 use Rattle.recipes.specs.declared.reader.LineRead.{LineRead}
 use Rattle.recipes.specs.declared.reader.LineRead.TheVariants.{Read, Slip}
-use Rattle.text.specs.declared.types.Digit.{Digit}
-use Rattle.text.specs.declared.types.Digit.TheVariants.{Is, Bad}
+use Rattle.std.specs.Prelude.{Option, Some, None}
 use Rattle.recipes.specs.declared.reader.VerbRead.{VerbRead}
 use Rattle.recipes.specs.declared.reader.VerbRead.TheVariants.{Known, Unknown}
 use Rattle.text.specs.Text.{before, after, parts, digit_of}
@@ -66,15 +65,15 @@ no_digit : {len : ℕ} (c : ℕ) → 0 < c → c ≤ len + 1 → Slipped len Not
 no_digit c h l = record { some = refl; told = lt-ltb 0 c h; within = l; whole = refl }
 
 module _ (len : ℕ) (v : Verb) where
-  one_slips : (c : ℕ) (d : Digit) → 0 < c → c ≤ len + 1 → Slips len (with_one v c d)
-  one_slips c (Is a) h l = tt
-  one_slips c Bad h l = no_digit c h l
+  one_slips : (c : ℕ) (d : Option ℕ) → 0 < c → c ≤ len + 1 → Slips len (with_one v c d)
+  one_slips c (Some a) h l = tt
+  one_slips c None h l = no_digit c h l
 
-  two_slips : (c e : ℕ) (d f : Digit) → 0 < c → c ≤ e → e ≤ len + 1 → Slips len (with_two v c e d f)
-  two_slips c e (Is a) (Is b) h i l = tt
-  two_slips c e (Is a) Bad h i l = no_digit e (omega arith) l
-  two_slips c e Bad (Is b) h i l = no_digit c h (omega arith)
-  two_slips c e Bad Bad h i l = no_digit c h (omega arith)
+  two_slips : (c e : ℕ) (d f : Option ℕ) → 0 < c → c ≤ e → e ≤ len + 1 → Slips len (with_two v c e d f)
+  two_slips c e (Some a) (Some b) h i l = tt
+  two_slips c e (Some a) None h i l = no_digit e (omega arith) l
+  two_slips c e None (Some b) h i l = no_digit c h (omega arith)
+  two_slips c e None None h i l = no_digit c h (omega arith)
 
   single_slips : (at : ℕ) (fields : List (List ℕ)) → 0 < at → at + behind fields ≤ len + 1 → Slips len (one_field v at fields)
   single_slips at [] h l = wrong at h (omega arith)

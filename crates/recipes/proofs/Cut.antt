@@ -24,8 +24,7 @@ use Rattle.recipes.specs.declared.types.Refusal.{Refusal}
 use Rattle.recipes.specs.declared.types.Refusal.TheVariants.{Nothing, WidthLine, NoSuchNumber, OntoItself, TooManyLines, NoSpace, UnknownVerb, WrongFields, NotADigit, NoNewline}
 use Rattle.recipes.specs.declared.reader.VerbRead.{VerbRead}
 use Rattle.recipes.specs.declared.reader.VerbRead.TheVariants.{Known, Unknown}
-use Rattle.text.specs.declared.types.Digit.{Digit}
-use Rattle.text.specs.declared.types.Digit.TheVariants.{Is, Bad}
+use Rattle.std.specs.Prelude.{Option, Some, None}
 use Rattle.recipes.specs.declared.reader.LineRead.{LineRead}
 use Rattle.recipes.specs.declared.reader.LineRead.TheVariants.{Read, Slip}
 use Rattle.text.specs.Text.{ascii, same_bytes, before, after, digit_of}
@@ -85,11 +84,11 @@ long_word word h =
     let two : 3 ≤ length word = omega arith in
     simp differs
 
-long_digit : (field : List ℕ) → 2 ≤ length field → digit_of field ≡ Bad
+long_digit : (field : List ℕ) → 2 ≤ length field → digit_of field ≡ None
 unfolding digit_of
 long_digit field h = rw (ne_eqb (length field) 1 (λ e. omega arith))
 
-long_one : (fields : List (List ℕ)) → 3 ≤ behind fields → only_digit fields ≡ Bad
+long_one : (fields : List (List ℕ)) → 3 ≤ behind fields → only_digit fields ≡ None
 long_one [] h = refl
 long_one (f ∷ []) h = long_digit f (omega arith)
 long_one (f ∷ g ∷ more) h = refl
@@ -102,9 +101,9 @@ abbrev Misread : LineRead → Type 0
 Misread (Slip k c) = named k ≡ true
 Misread (Read l) = ⊥
 
-second_bad : (v : Verb) (c e : ℕ) (d : Digit) → Misread (with_two v c e d Bad)
-second_bad v c e (Is a) = refl
-second_bad v c e Bad = refl
+second_bad : (v : Verb) (c e : ℕ) (d : Option ℕ) → Misread (with_two v c e d None)
+second_bad v c e (Some a) = refl
+second_bad v c e None = refl
 
 module _ (v : Verb) (at : ℕ) where
   single_misread : (fields : List (List ℕ)) → 5 ≤ behind fields → Misread (one_field v at fields)

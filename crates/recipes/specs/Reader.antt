@@ -1,6 +1,6 @@
 -- What recipe text means: document 01, "Recipes" and "Refusal numbers", with document 02, item 1. A text is any list of bytes. A column counts the bytes
 -- of a text line from 1. Assumes nothing.
-use Rattle.std.specs.Prelude.{ℕ, ◌+◌, ◌-◌, ◌/◌, cond, List, [], ◌∷◌, ◌++◌, eqb, length, replicate}
+use Rattle.std.specs.Prelude.{ℕ, ◌+◌, ◌-◌, ◌/◌, cond, List, [], ◌∷◌, ◌++◌, eqb, length, replicate, Option, Some, None}
 use Rattle.recipes.specs.declared.types.Verb.{Verb}
 use Rattle.recipes.specs.declared.types.Verb.TheVariants.{Clear, Copy, Add, Sub, Neg, Not, Halve, Down, Up}
 use Rattle.recipes.specs.declared.types.Line.{Line}
@@ -10,8 +10,6 @@ use Rattle.recipes.specs.declared.types.Refusal.TheVariants.{WidthLine, TooManyL
 use Rattle.recipes.specs.declared.types.Refused.{Refused}
 use Rattle.recipes.specs.declared.reader.VerbRead.{VerbRead}
 use Rattle.recipes.specs.declared.reader.VerbRead.TheVariants.{Known, Unknown}
-use Rattle.text.specs.declared.types.Digit.{Digit}
-use Rattle.text.specs.declared.types.Digit.TheVariants.{Is, Bad}
 use Rattle.recipes.specs.declared.reader.LineRead.{LineRead}
 use Rattle.recipes.specs.declared.reader.LineRead.TheVariants.{Read, Slip}
 use Rattle.text.specs.Text.{ascii, same_bytes, before, after, digit_of}
@@ -57,14 +55,14 @@ abbrev pub past : (at : ℕ) → (field : List ℕ) → ℕ
 past at field = at + 1 + length field
 
 -- a verb with the digit that it takes, which stands at column c; with two, at c and d: 13 at the first that is none
-abbrev pub with_one : Verb → (c : ℕ) → Digit → LineRead
-with_one v c (Is a) = Read (record { verb = v; a = a; b = 0 })
-with_one v c Bad = Slip NotADigit c
+abbrev pub with_one : Verb → (c : ℕ) → Option ℕ → LineRead
+with_one v c (Some a) = Read (record { verb = v; a = a; b = 0 })
+with_one v c None = Slip NotADigit c
 
-abbrev pub with_two : Verb → (c d : ℕ) → Digit → Digit → LineRead
-with_two v c d (Is a) (Is b) = Read (record { verb = v; a = a; b = b })
-with_two v c d (Is a) Bad = Slip NotADigit d
-with_two v c d Bad e = Slip NotADigit c
+abbrev pub with_two : Verb → (c d : ℕ) → Option ℕ → Option ℕ → LineRead
+with_two v c d (Some a) (Some b) = Read (record { verb = v; a = a; b = b })
+with_two v c d (Some a) None = Slip NotADigit d
+with_two v c d None e = Slip NotADigit c
 
 -- a verb that takes one number, and one that takes two, with the fields behind it; the tab or byte 10 behind the verb has the column `at`. 12 is at the early
 -- byte 10, or at the first field too many
@@ -120,15 +118,15 @@ lines_of w ls row (next ∷ more) =
 -- ---- the width line: 4 for every slip, without a column
 
 -- the digit that is the only field
-abbrev pub only_digit : List (List ℕ) → Digit
-only_digit [] = Bad
+abbrev pub only_digit : List (List ℕ) → Option ℕ
+only_digit [] = None
 only_digit (f ∷ []) = digit_of f
-only_digit (f ∷ g ∷ more) = Bad
+only_digit (f ∷ g ∷ more) = None
 
 -- the width that a digit gives, and 0 where it gives none
-abbrev pub width_digit : Digit → ℕ
-width_digit (Is d) = cond (is_width d) d 0
-width_digit Bad = 0
+abbrev pub width_digit : Option ℕ → ℕ
+width_digit (Some d) = cond (is_width d) d 0
+width_digit None = 0
 
 unfoldable pub width_line : List ℕ → ℕ
 width_line row = cond (same_bytes (before 9 row) (ascii "width")) (width_digit (only_digit (after 9 row))) 0

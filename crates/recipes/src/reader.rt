@@ -11,8 +11,8 @@ use super::types::{
     LINES_MAX, Line, Reading, Recipe, Refusal, Refused, Verb, at_column, no_refusal, passes,
 };
 use text::numbers::digit_of;
-use text::parts::{first, same};
-use text::types::{Digit, NEWLINE, TAB};
+use text::parts::first;
+use text::types::{NEWLINE, TAB};
 
 // What a text line is read as: a recipe line, or why it is none, with the column.
 #[derive(Clone, Copy)]
@@ -29,10 +29,11 @@ pub(crate) enum VerbRead {
 }
 
 // `verb` where the field is its name, and otherwise what was found among the other verbs.
+#[tactic(auto, using(text::proofs::Texts::same_pointwise))]
 fn or_verb(field: &[u8], name: &[u8], verb: Verb, other: VerbRead) -> VerbRead
     ensures { result ≡ cond (same_bytes field.now name.now) (Known verb) other }
 {
-    if same(field, name) {
+    if field == name {
         return VerbRead::Known(verb);
     }
     other
@@ -55,11 +56,11 @@ fn verb_of(field: &[u8]) -> VerbRead
 }
 
 // The digit that is the only field.
-fn only_digit(fields: &[u8]) -> Digit
+fn only_digit(fields: &[u8]) -> Option<u8>
     ensures { result ≡ only_digit (parts 9 fields.now) }
 {
     if first(fields, TAB) < fields.len() {
-        return Digit::Bad;
+        return None;
     }
     digit_of(fields)
 }
@@ -76,8 +77,8 @@ fn read_one(verb: Verb, at: usize, fields: &[u8]) -> LineRead
         return LineRead::Slip(Refusal::WrongFields, extra);
     }
     match digit_of(fields) {
-        Digit::Is(a) => LineRead::Read(Line { verb, a, b: 0 }),
-        Digit::Bad => LineRead::Slip(Refusal::NotADigit, column),
+        Some(a) => LineRead::Read(Line { verb, a, b: 0 }),
+        None => LineRead::Slip(Refusal::NotADigit, column),
     }
 }
 
@@ -99,10 +100,10 @@ fn read_two(verb: Verb, at: usize, fields: &[u8]) -> LineRead
         let third = next + end + 1;
         return LineRead::Slip(Refusal::WrongFields, third);
     }
-    let Digit::Is(a) = digit_of(&fields[..tab]) else {
+    let Some(a) = digit_of(&fields[..tab]) else {
         return LineRead::Slip(Refusal::NotADigit, column);
     };
-    let Digit::Is(b) = digit_of(second) else {
+    let Some(b) = digit_of(second) else {
         return LineRead::Slip(Refusal::NotADigit, next);
     };
     LineRead::Read(Line { verb, a, b })
@@ -151,12 +152,12 @@ fn read_line(numbers: u8, row: &[u8]) -> LineRead
 }
 
 // The width that a digit gives, or 0.
-fn width_digit(digit: Digit) -> u8
+fn width_digit(digit: Option<u8>) -> u8
     ensures { result ≡ width_digit digit }
 {
     match digit {
-        Digit::Is(d) => { if is_width(d) { d } else { 0 } }
-        Digit::Bad => 0,
+        Some(d) => { if is_width(d) { d } else { 0 } }
+        None => 0,
     }
 }
 
@@ -165,7 +166,8 @@ fn read_width(row: &[u8]) -> u8
     ensures { result ≡ width_line row.now }
 {
     let tab = first(row, TAB);
-    if !same(&row[..tab], b"width") {
+    let named = &row[..tab] == b"width".as_slice();
+    if !named {
         return 0;
     }
     if row.len() <= tab {

@@ -15,10 +15,9 @@ use contract.Monad.{Fun, fact}
 use contract.Lifetimes.{Lfts}
 use denote.Triple.Entry.{Args, Res}
 use denote.Triple.Clauses.{Ended, Lasts, AtExit, at_exit}
-use Rattle.text.specs.Text.{same_bytes, before, byte_digit, hex_digit, digit_of, worth_of, decimal_of, decimal_read, hex_of, hex_read}
+use Rattle.text.specs.Text.{before, byte_digit, hex_digit, digit_of, worth_of, decimal_of, decimal_read, hex_of, hex_read}
 use Rattle.text.specs.Wrote.{Written, written, writing}
 use Rattle.text.specs.contracts.parts.first as first
-use Rattle.text.specs.contracts.parts.same as same
 use Rattle.text.specs.contracts.numbers.digit as digit
 use Rattle.text.specs.contracts.numbers.hex_digit as hex-digit
 use Rattle.text.specs.contracts.numbers.digit_of as digit-of
@@ -51,9 +50,6 @@ next_in w = w.next
 module _ {M : Type 1} {𝓤 : Ura M} (𝓛 : Logic 𝓤) (mem : Memory → SProp 𝓤) (go : Routine → Fun 𝓤) where
   pub first_determined : (κs : Lfts 1) (a : Args first.signature κs) → OneExit 𝓤 first.ended κs a (λ r ws. r) ((first.clauses 𝓛 mem go κs a).ensures tt)
   first_determined κs a = record { of = length (before a.1.0 a.0.now); is = λ r ws. refl; all = λ r r' ws ws' e. (e, refl) }
-
-  pub same_determined : (κs : Lfts 2) (a : Args same.signature κs) → OneExit 𝓤 same.ended κs a (λ r ws. r) ((same.clauses 𝓛 mem go κs a).ensures tt)
-  same_determined κs a = record { of = same_bytes a.0.now a.1.0.now; is = λ r ws. refl; all = λ r r' ws ws' e. (e, refl) }
 
   pub digit_determined : (κs : Lfts 0) (a : Args digit.signature κs) → OneExit 𝓤 digit.ended κs a (λ r ws. r) ((digit.clauses 𝓛 mem go κs a).ensures tt)
   digit_determined κs a = record { of = byte_digit a.0; is = λ r ws. refl; all = λ r r' ws ws' e. (e, refl) }

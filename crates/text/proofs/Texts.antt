@@ -3,10 +3,12 @@
 --     same_pointwise                   std's `==` on slices says the same
 --     First                            an index tells how a byte parts a text: the part before it, and the rest as `&s[i + 1..]` gives it
 --     first_tells, first_by            the length of the part before does
-use Rattle.std.proofs.Common.{◌≡◌, ℕ, suc, ◌+◌, ◌-◌, ◌<◌, ◌≤◌, Bool, true, false, cond, ◌&&◌, eqb, List, [], ◌∷◌, length, take, drop, sym, refl, ap, ◌∙◌, ap₂, le_refl, le_of_suc-le-suc, not-suc-le-zero, add-one, arith, length-drop, length-take-le, take_all, eq-eqb, eqb-true, ne_eqb, get_or, nat_eq}
+use Rattle.std.proofs.Common.{Some, None, not, ltb, ◌≡◌, ℕ, suc, ◌+◌, ◌-◌, ◌<◌, ◌≤◌, Bool, true, false, cond, ◌&&◌, eqb, List, [], ◌∷◌, length, take, drop, sym, refl, ap, ◌∙◌, ap₂, le_refl, le_of_suc-le-suc, not-suc-le-zero, add-one, arith, length-drop, length-take-le, take_all, eq-eqb, eqb-true, nat_eq}
 use mathlib.Core.Bool.{false≢true}
-use Rattle.std.proofs.Math.Seq.{drop-cons}
 use lib.Pointwise.{pointwise}
+use Rattle.std.proofs.lemmas.Bool.{ltb-false}
+use Rattle.std.specs.List.{position, position_or_len}
+use Rattle.std.specs.Option.{unwrap_or}
 use Rattle.text.specs.Text.{same_bytes, before, after, parts}
 
 -- ---- two texts are the same
@@ -124,14 +126,21 @@ first_tells b xs = first_at_lem b xs (within_at b xs)
 pub first_by : {b i : ℕ} {xs : List ℕ} → i ≡ length (before b xs) → First b xs i
 first_by {b} {i} {xs} e = rw e (first_tells b xs)
 
--- ---- a search from the front: how far a text is read before its index
+-- ---- a search from the front
 
--- at place i, where b was not met so far, b itself ends it
-pub index_here : (b i : ℕ) (xs : List ℕ) → i < length xs → get_or xs i 0 ≡ b → length (before b (drop i xs)) ≡ 0
+-- it is the first place that passes std's `position`
+index_is : (b : ℕ) (xs : List ℕ) → position_or_len (λ x. eqb x b) xs ≡ length (before b xs)
 unfolding before
-index_here b i xs h e = rw (drop-cons xs i 0, eq-eqb _ _ e)
+index_is b [] = refl
+index_is b (x ∷ xs) = go (eqb x b) (index_is b xs)
+  where
+    go : (t : Bool) → position_or_len (λ y. eqb y b) xs ≡ length (before b xs) → cond (not t) (1 + position_or_len (λ y. eqb y b) xs) 0 ≡ length (cond t [] (x ∷ before b xs))
+    go true e = refl
+    go false e = omega arith
 
--- and another byte is one more
-pub index_next : (b i : ℕ) (xs : List ℕ) → i < length xs → (get_or xs i 0 ≡ b → ⊥) → length (before b (drop i xs)) ≡ 1 + length (before b (drop (i + 1) xs))
-unfolding before
-index_next b i xs h n = rw (drop-cons xs i 0, ne_eqb _ _ n, add-one) (omega arith)
+pub first_found : (b : ℕ) (xs : List ℕ) → unwrap_or (position (λ x. eqb x b) xs) (length xs) ≡ length (before b xs)
+first_found b xs = rw (index_is b xs) (go (ltb (length (before b xs)) (length xs)) refl)
+  where
+    go : (t : Bool) → ltb (length (before b xs)) (length xs) ≡ t → unwrap_or (cond t (Some (length (before b xs))) None) (length xs) ≡ length (before b xs)
+    go true e = refl
+    go false e = let h = within_at b xs in let past = ltb-false _ _ e in omega arith

@@ -4,14 +4,18 @@
 --     decimal_was, hex_was        write after read: what is read as a number is its writing
 --     decimal_short, hex_length   how long a writing is
 --     decimal_text                what `io::decimal` writes is `decimal_of`
-use Rattle.std.proofs.Common.{◌≡◌, ℕ, zero, suc, ◌+◌, ◌-◌, ◌*◌, ◌/◌, ◌%◌, ◌^◌, ◌<◌, ◌≤◌, Bool, true, false, cond, ◌&&◌, ltb, ◌⊎◌, List, [], ◌∷◌, ◌++◌, length, get_or, take, drop, set, sym, refl, ap, ◌∙◌, inl, inr, suc-le-suc, zero-le, le_of_suc-le-suc, not-suc-le-zero, mul-le-mul_right, mod-lt, mod-eq_of_lt, div-lt_iff_lt-mul, mul-le-mul_left, pow-suc, div-add-mod', le-div_iff_mul-le, zero-add, add-one, sub-one, arith, lit<, length-append, length-take-le, take-suc, drop_at, ltb-true, le-ltb, lt-ltb}
-use mathlib.Core.Bool.{false≢true}
+use Rattle.std.proofs.Common.{◌≡◌, ℕ, zero, suc, ◌+◌, ◌-◌, ◌*◌, ◌/◌, ◌%◌, ◌^◌, ◌<◌, ◌≤◌, Bool, true, false, cond, ◌&&◌, ltb, List, [], ◌∷◌, ◌++◌, length, get_or, refl, ap, ◌∙◌, suc-le-suc, zero-le, le_of_suc-le-suc, not-suc-le-zero, mod-lt, mod-eq_of_lt, div-lt_iff_lt-mul, pow-suc, div-add-mod', le-div_iff_mul-le, zero-add, sub-one, arith, lit<, length-append, ltb-true, le-ltb, lt-ltb, subst, Option, Some, None}
 use native.Mathlib.Nat.{pow-le-pow_right}
 use native.Mathlib.Decide.{dec_le}
-use lib.Seq.{set_split, append_snoc}
 use Rattle.io.specs.Digits.{last_digits as digits, IsDigitCount}
-use Rattle.text.specs.declared.types.Decimal.{Decimal}
-use Rattle.text.specs.declared.types.Hex.{Hex}
+use Rattle.std.specs.Bool.{then_some}
+use Rattle.std.specs.Array.{IsFromFnResultFrom}
+use Rattle.std.specs.Fn.{Called}
+use denote.Param.Members.{Mut}
+use Rattle.std.proofs.Math.Nat.{mod-add-mod, div-div-eq-div-mul, div-one}
+use Rattle.std.proofs.lemmas.Nat.{mul-mod_first}
+use Rattle.std.proofs.lemmas.List.FromFn.{fill_by_all}
+use Rattle.std.specs.List.{fold}
 use Rattle.text.specs.Text.{same_bytes, hex_digit, worth_of, value_from, value_of, decimal_in, decimal_of, decimal_read, hex_byte, hex_in, hex_of, hex_read}
 use Rattle.text.proofs.Texts.{same_true, same_refl}
 
@@ -77,123 +81,106 @@ hex_means (suc k) n h =
 pub hex_value : (n : ℕ) → n < 2 ^ 32 → value_of 16 (hex_of n) ≡ n
 hex_value n h = hex_means 8 n h
 
--- eight digits are laid from the last to the first
-pub hex_turn : (i n g : ℕ) (digits : List ℕ) → 0 < i → i ≤ length digits → ((n % 16 < 10) × (g ≡ 48 + n % 16)) ⊎ ((10 ≤ n % 16) × (g ≡ 55 + n % 16))
-    → hex_in i n ++ drop i digits ≡ hex_in (i - 1) (n / 16) ++ drop (i - 1) (set digits (i - 1) g)
+-- the digits' value is a fold over them, and so is what a word below a limit holds of it
+pub value_fold : (base limit v : ℕ) (xs : List ℕ) → fold (λ a x. (a * base % limit + worth_of x) % limit) (v % limit) xs ≡ value_from base v xs % limit
+unfolding value_from
+value_fold base limit v [] = refl
+value_fold base limit v (x ∷ xs) =
+    let turn : (v % limit * base % limit + worth_of x) % limit ≡ (v * base + worth_of x) % limit = rw (mul-mod_first, mod-add-mod) in
+    rw turn (value_fold base limit (v * base + worth_of x) xs)
+
+-- eight digits, the k-th from the front by a shift over those behind it
+abbrev pub hex_at : (n k : ℕ) → ℕ
+hex_at n k = hex_byte (n / 2 ^ (28 - 4 * k) % 16)
+
+-- calls of one closure, at each place in turn
+module _ {F : Type 0} (g : Mut F (ℕ × Unit {0}) ℕ) (f : F) (h : ℕ → ℕ) (acts : (i r : ℕ) (q : F) → Called g f (i, tt) r q → (q ≡ f) × (r ≡ h i)) where
+  pub each_from : (ys : List ℕ) (i n : ℕ) → IsFromFnResultFrom g f ys i n → (k : ℕ) → i ≤ k → k < i + n → get_or ys k 0 ≡ h k
+  each_from ys i zero e k l m = absurd (omega arith)
+  each_from ys i (suc n) (q, y, at, call, more) k l m =
+      go (λ (p : i + 1 ≤ k). each_from ys (i + 1) n (subst (λ f'. IsFromFnResultFrom g f' ys (i + 1) n) (acts i y q call).0 more) k p (omega arith)) (dec_le (i + 1) k)
+    where
+      go : (i + 1 ≤ k → get_or ys k 0 ≡ h k) → Dec (i + 1 ≤ k) → get_or ys k 0 ≡ h k
+      go later (yes p) = later p
+      go later (no p) = let here : i ≡ k = omega arith in rw (← here) (at.1 0 ∙ (acts i y q call).1)
+
+pub hex_by : (n : ℕ) (ds : List ℕ) → length ds ≡ 8 → ((k : ℕ) → k < 8 → get_or ds k 0 ≡ hex_at n k) → ds ≡ hex_of n
 unfolding hex_in
-hex_turn zero n g digits p h by = absurd (not-suc-le-zero p)
-hex_turn (suc i) n g digits p h by =
-    rw (sub-one, ← byte by, set_split digits i g h, drop_at (take i digits) (g ∷ drop (suc i) digits) i (length-take-le i digits (omega arith)))
-    (append_snoc (hex_in i (n / 16)) g (drop (suc i) digits))
-  where
-    byte : ((n % 16 < 10) × (g ≡ 48 + n % 16)) ⊎ ((10 ≤ n % 16) × (g ≡ 55 + n % 16)) → g ≡ hex_byte (n % 16)
-    byte (inl w) = rw (lt-ltb (n % 16) 10 w.0) w.1
-    byte (inr w) = rw (le-ltb (n % 16) 10 w.0) w.1
-
--- one digit more of a field
-value_next : (base : ℕ) (field : List ℕ) (i : ℕ) → i < length field
-    → value_of base (take (i + 1) field) ≡ value_of base (take i field) * base + worth_of (get_or field i 0)
-value_next base field i h = rw (add-one, take-suc field i 0 h) (value_more base 0 (take i field) (get_or field i 0))
-
--- A turn of a loop that reads digits: its number is their value as long as that is below the limit. Only a value below `part`
--- can stay below it with one digit more.
-pub value_turn :
-    (base part limit : ℕ) → 0 < base → limit ≤ part * base → (field : List ℕ) (i v n : ℕ) → i < length field
-    → (value_of base (take i field) < limit → v ≡ value_of base (take i field))
-    → n ≡ (v % part * base + worth_of (get_or field i 0)) % limit
-    → value_of base (take (i + 1) field) < limit → n ≡ value_of base (take (i + 1) field)
-value_turn base part limit some enough field i v n h agrees e less =
-    let more = value_next base field i h in
-    go (value_of base (take i field)) (worth_of (get_or field i 0)) agrees (rw more at less) e ∙ sym more
-  where
-    below : (real d : ℕ) → real * base + d < limit → Dec (part ≤ real) → real < part
-    below real d l (no k) = omega arith
-    below real d l (yes k) = let most : part * base ≤ real * base = mul-le-mul_right base k in absurd (omega arith)
-
-    go : (real d : ℕ) → (real < limit → v ≡ real) → real * base + d < limit → n ≡ (v % part * base + d) % limit → n ≡ real * base + d
-    go real d agrees l e =
-        let one : real * 1 ≤ real * base = mul-le-mul_left real some in
-        let is : v ≡ real = agrees (omega arith) in
-        let cut : v % part ≡ real = rw is (mod-eq_of_lt (below real d l (dec_le part real))) in
-        e ∙ rw cut (mod-eq_of_lt l)
+hex_by n ds h each = fill_by_all (hex_at n) ds 8 0 h each ∙ (simp (div-div-eq-div-mul, div-one))
 
 -- ---- a field is a number's writing, in any base and below any limit
 
-module _ {A : Type 0} (is : ℕ → A) (bad : A) (base limit : ℕ) (write : ℕ → List ℕ) (means : (n : ℕ) → n < limit → value_of base (write n) ≡ n) where
+module _ (base limit : ℕ) (write : ℕ → List ℕ) (means : (n : ℕ) → n < limit → value_of base (write n) ≡ n) where
   -- what a definition says of the field, given its value
-  abbrev said : List ℕ → ℕ → A
-  said field v = cond (ltb v limit && same_bytes field (write v)) (is v) bad
+  abbrev said : List ℕ → ℕ → Option ℕ
+  said field v = cond (ltb v limit && same_bytes field (write v)) (Some v) None
 
   -- it may be read by any number that is its value where that is below the limit
   pub read_by : (field : List ℕ) (v : ℕ) → v < limit → (value_of base field < limit → v ≡ value_of base field)
-      → cond (same_bytes field (write v)) (is v) bad ≡ said field (value_of base field)
+      → then_some (same_bytes field (write v)) v ≡ said field (value_of base field)
   read_by field v small agrees = go (same_bytes field (write v)) refl
     where
-      other : (t : Bool) → ltb (value_of base field) limit ≡ t → same_bytes field (write v) ≡ false → bad ≡ said field (value_of base field)
+      other : (t : Bool) → ltb (value_of base field) limit ≡ t → same_bytes field (write v) ≡ false → None ≡ said field (value_of base field)
       other true e d = rw (e, ← agrees (ltb-true _ _ e), d)
       other false e d = rw e
 
-      go : (t : Bool) → same_bytes field (write v) ≡ t → cond t (is v) bad ≡ said field (value_of base field)
+      go : (t : Bool) → same_bytes field (write v) ≡ t → then_some t v ≡ said field (value_of base field)
       go true e =
           let worth : value_of base field ≡ v = ap (value_of base) (same_true field (write v) e) ∙ means v small in
           rw (worth, lt-ltb v limit small, e)
       go false e = other (ltb (value_of base field) limit) refl e
 
   -- read after write
-  pub read_wrote : (n : ℕ) → n < limit → said (write n) (value_of base (write n)) ≡ is n
+  pub read_wrote : (n : ℕ) → n < limit → said (write n) (value_of base (write n)) ≡ Some n
   read_wrote n h = rw (means n h, lt-ltb n limit h, same_refl (write n))
 
   -- write after read
-  pub read_was : ((n m : ℕ) → is n ≡ is m → n ≡ m) → ((n : ℕ) → bad ≡ is n → ⊥) → (field : List ℕ) (n : ℕ) → said field (value_of base field) ≡ is n → field ≡ write n
-  read_was one none field n = go (ltb (value_of base field) limit) (same_bytes field (write (value_of base field))) refl
+  pub read_was : (field : List ℕ) (n : ℕ) → said field (value_of base field) ≡ Some n → field ≡ write n
+  read_was field n = go (ltb (value_of base field) limit) (same_bytes field (write (value_of base field))) refl
     where
-      go : (t s : Bool) → same_bytes field (write (value_of base field)) ≡ s → cond (t && s) (is (value_of base field)) bad ≡ is n → field ≡ write n
-      go true true e f = same_true _ _ e ∙ ap write (one _ _ f)
-      go true false e f = absurd (none n f)
-      go false s e f = absurd (none n f)
-
-abbrev decimal_number : Decimal → ℕ
-decimal_number (Decimal.Is n) = n
-decimal_number Decimal.Bad = 0
-
-abbrev decimal_is : Decimal → Bool
-decimal_is (Decimal.Is n) = true
-decimal_is Decimal.Bad = false
+      go : (t s : Bool) → same_bytes field (write (value_of base field)) ≡ s → cond (t && s) (Some (value_of base field)) None ≡ Some n → field ≡ write n
+      go true true e f = let is : value_of base field ≡ n = cc in same_true _ _ e ∙ ap write is
+      go true false e f = cc
+      go false s e f = cc
 
 below_ten : (n : ℕ) → n < 2 ^ 64 → value_of 10 (decimal_of n) ≡ n
 below_ten n h = decimal_value n (omega arith)
 
-pub decimal_read_lem : (field : List ℕ) (v : ℕ) → v < 2 ^ 64 → (value_of 10 field < 2 ^ 64 → v ≡ value_of 10 field) → cond (same_bytes field (decimal_of v)) (Decimal.Is v) Decimal.Bad ≡ decimal_read field
+pub decimal_read_lem : (field : List ℕ) (v : ℕ) → v < 2 ^ 64 → (value_of 10 field < 2 ^ 64 → v ≡ value_of 10 field) → then_some (same_bytes field (decimal_of v)) v ≡ decimal_read field
 unfolding decimal_read
-decimal_read_lem field v small agrees = read_by Decimal.Is Decimal.Bad 10 (2 ^ 64) decimal_of below_ten field v small agrees
+decimal_read_lem field v small agrees = read_by 10 (2 ^ 64) decimal_of below_ten field v small agrees
 
-pub decimal_wrote : (n : ℕ) → n < 2 ^ 64 → decimal_read (decimal_of n) ≡ Decimal.Is n
+pub decimal_wrote : (n : ℕ) → n < 2 ^ 64 → decimal_read (decimal_of n) ≡ Some n
 unfolding decimal_read
-decimal_wrote n h = read_wrote Decimal.Is Decimal.Bad 10 (2 ^ 64) decimal_of below_ten n h
+decimal_wrote n h = read_wrote 10 (2 ^ 64) decimal_of below_ten n h
 
-pub decimal_was : (field : List ℕ) (n : ℕ) → decimal_read field ≡ Decimal.Is n → field ≡ decimal_of n
+pub decimal_was : (field : List ℕ) (n : ℕ) → decimal_read field ≡ Some n → field ≡ decimal_of n
 unfolding decimal_read
-decimal_was field n e = read_was Decimal.Is Decimal.Bad 10 (2 ^ 64) decimal_of below_ten (λ n m e. ap decimal_number e) (λ n e. false≢true (ap decimal_is e)) field n e
+decimal_was field n e = read_was 10 (2 ^ 64) decimal_of below_ten field n e
 
-abbrev hex_number : Hex → ℕ
-hex_number (Hex.Is n) = n
-hex_number Hex.Bad = 0
-
-abbrev hex_is : Hex → Bool
-hex_is (Hex.Is n) = true
-hex_is Hex.Bad = false
-
-pub hex_read_lem : (field : List ℕ) (v : ℕ) → v < 2 ^ 32 → (value_of 16 field < 2 ^ 32 → v ≡ value_of 16 field) → cond (same_bytes field (hex_of v)) (Hex.Is v) Hex.Bad ≡ hex_read field
+pub hex_read_lem : (field : List ℕ) (v : ℕ) → v < 2 ^ 32 → (value_of 16 field < 2 ^ 32 → v ≡ value_of 16 field) → then_some (same_bytes field (hex_of v)) v ≡ hex_read field
 unfolding hex_read
-hex_read_lem field v small agrees = read_by Hex.Is Hex.Bad 16 (2 ^ 32) hex_of hex_value field v small agrees
+hex_read_lem field v small agrees = read_by 16 (2 ^ 32) hex_of hex_value field v small agrees
 
-pub hex_wrote : (n : ℕ) → n < 2 ^ 32 → hex_read (hex_of n) ≡ Hex.Is n
+-- what is above the limit is no field's value, or that of one too long
+pub hex_over : (field : List ℕ) (v : ℕ) → v ≡ value_of 16 field % 2 ^ 64 → 2 ^ 32 ≤ v → None ≡ hex_read field
 unfolding hex_read
-hex_wrote n h = read_wrote Hex.Is Hex.Bad 16 (2 ^ 32) hex_of hex_value n h
+hex_over field v is over = go (ltb (value_of 16 field) (2 ^ 32)) refl
+  where
+    go : (t : Bool) → ltb (value_of 16 field) (2 ^ 32) ≡ t → None ≡ hex_read field
+    go true e =
+        let small : value_of 16 field < 2 ^ 32 = ltb-true _ _ e in
+        let same : value_of 16 field % 2 ^ 64 ≡ value_of 16 field = mod-eq_of_lt (omega arith) in
+        absurd (omega arith)
+    go false e = rw e
 
-pub hex_was : (field : List ℕ) (n : ℕ) → hex_read field ≡ Hex.Is n → field ≡ hex_of n
+pub hex_wrote : (n : ℕ) → n < 2 ^ 32 → hex_read (hex_of n) ≡ Some n
 unfolding hex_read
-hex_was field n e = read_was Hex.Is Hex.Bad 16 (2 ^ 32) hex_of hex_value (λ n m e. ap hex_number e) (λ n e. false≢true (ap hex_is e)) field n e
+hex_wrote n h = read_wrote 16 (2 ^ 32) hex_of hex_value n h
+
+pub hex_was : (field : List ℕ) (n : ℕ) → hex_read field ≡ Some n → field ≡ hex_of n
+unfolding hex_read
+hex_was field n e = read_was 16 (2 ^ 32) hex_of hex_value field n e
 
 -- ---- how long a writing is
 

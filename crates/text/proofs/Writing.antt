@@ -5,7 +5,7 @@
 --     wrote_counts    the next place is a count of the slice
 --     wrote_whole     a text for which there is room stands at the front, whole
 --     wrote_all       and the next place is its length
-use Rattle.std.proofs.Common.{◌≡◌, ℕ, suc, ◌+◌, ◌-◌, ◌≤◌, min, max, List, [], ◌∷◌, ◌++◌, length, take, drop, set, sym, refl, ap, ◌∙◌, ap₂, append_assoc, append-nil, add-zero, add-suc, suc-add, arith, length-append, length-drop, take-append-drop, drop_of_length-le, length-take-le, take_all, drop-drop, take_at}
+use Rattle.std.proofs.Common.{◌≡◌, ℕ, suc, ◌+◌, ◌-◌, ◌<◌, ◌≤◌, min, max, List, [], ◌∷◌, ◌++◌, length, take, drop, set, sym, refl, ap, ◌∙◌, ap₂, append_assoc, append-nil, add-zero, add-suc, suc-add, arith, length-append, length-drop, take-append-drop, drop_of_length-le, length-take-le, take_all, drop-drop, take_at}
 use native.Mathlib.Decide.{dec_le}
 use lib.Seq.{sets, length-sets, set_out, take-nil, set-append_seam, append_snoc}
 use Rattle.io.specs.Counts.{IsPrefixLen}
@@ -52,6 +52,24 @@ wrote_next o at s v = ap (λ (w : Written). w.next) v
 pub wrote_by : (o : List ℕ) (at : ℕ) (s : List ℕ) {p : List ℕ} {r : ℕ} → p ≡ sets o at s → r ≡ reach at (length s) (length o) → Wrote o at s p r
 unfolding writing
 wrote_by o at s b n = ap₂ written (b ∙ stored o at s) n
+
+-- as much of a text as there is room for, from place `at` to `end`
+pub wrote_part : (o : List ℕ) (at end : ℕ) (s : List ℕ) → end ≡ min (at + length s) (length o) → at ≤ end
+    → Wrote o at s (take at o ++ (take (end - at) s ++ drop end o)) end
+unfolding writing
+wrote_part o at end s e h = go (dec_le (at + length s) (length o))
+  where
+    go : Dec (at + length s ≤ length o) → Wrote o at s (take at o ++ (take (end - at) s ++ drop end o)) end
+    go (yes l) =
+        let is : end ≡ at + length s = omega arith in
+        rw (is, take_all (at + length s - at) s (omega arith), take_all (length o - at) s (omega arith)) (ap (written (take at o ++ (s ++ drop (at + length s) o))) (omega arith))
+    go (no l) =
+        let is : end ≡ length o = omega arith in
+        rw (is, drop_of_length-le o {i = length o} (omega arith), drop_of_length-le o {i = at + length s} (omega arith)) (ap (written (take at o ++ (take (length o - at) s ++ []))) (omega arith))
+
+-- past the end
+pub wrote_past : (o : List ℕ) (at : ℕ) (s : List ℕ) → min (at + length s) (length o) < at → Wrote o at s o at
+wrote_past o at s h = wrote_by o at s (sym (sets_out o at s (omega arith))) (omega arith)
 
 pub wrote_length : (o : List ℕ) (at : ℕ) (s : List ℕ) {p : List ℕ} {r : ℕ} → Wrote o at s p r → length p ≡ length o
 wrote_length o at s v = ap length (wrote_bytes o at s v) ∙ length-sets o at s

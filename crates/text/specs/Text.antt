@@ -1,11 +1,8 @@
 -- Texts as lists of bytes: how a byte parts a text, digits, and numbers in decimal and in hexadecimal, both ways. `cond test yes no` is a choice.
 -- Assumes nothing.
-use Rattle.std.specs.Prelude.{ℕ, zero, suc, ◌+◌, ◌-◌, ◌*◌, ◌/◌, ◌%◌, ◌^◌, Bool, true, false, cond, ◌&&◌, List, [], ◌∷◌, ◌++◌, length, ◌==◌, nat_lt, slice_index}
+use Rattle.std.specs.Prelude.{ℕ, zero, suc, ◌+◌, ◌-◌, ◌*◌, ◌/◌, ◌%◌, ◌^◌, Bool, true, false, cond, ◌&&◌, List, [], ◌∷◌, ◌++◌, length, ◌==◌, nat_lt, slice_index, Option, Some, None, unwrap_or}
 use Prim.Native.Char.{code}
 use Prim.Native.String.{String, [] as none, ◌∷◌ as ◌then◌}
-use Rattle.text.specs.declared.types.Digit.{Digit}
-use Rattle.text.specs.declared.types.Decimal.{Decimal}
-use Rattle.text.specs.declared.types.Hex.{Hex}
 
 -- the bytes of an ASCII text
 abbrev pub ascii : String → List ℕ
@@ -36,27 +33,22 @@ parts b xs = before b xs ∷ after b xs
 -- ---- digits
 
 -- a byte as a decimal digit, 48 to 57
-abbrev pub byte_digit : ℕ → Digit
-byte_digit b = cond (nat_lt b 48) Digit.Bad (cond (nat_lt 57 b) Digit.Bad (Digit.Is (b - 48)))
+abbrev pub byte_digit : ℕ → Option ℕ
+byte_digit b = cond (nat_lt b 48) None (cond (nat_lt 57 b) None (Some (b - 48)))
 
 -- a byte as a hexadecimal digit: those, and A to F, 65 to 70
-unfoldable pub hex_digit : ℕ → Digit
-hex_digit b = cond (nat_lt b 65) (byte_digit b) (cond (nat_lt 70 b) Digit.Bad (Digit.Is (b - 55)))
+unfoldable pub hex_digit : ℕ → Option ℕ
+hex_digit b = cond (nat_lt b 65) (byte_digit b) (cond (nat_lt 70 b) None (Some (b - 55)))
 
 -- a field as one decimal digit
-unfoldable pub digit_of : List ℕ → Digit
-digit_of field = cond (length field == 1) (byte_digit (slice_index field 0)) Digit.Bad
+unfoldable pub digit_of : List ℕ → Option ℕ
+digit_of field = cond (length field == 1) (byte_digit (slice_index field 0)) None
 
 -- ---- the value of digits
 
--- what a digit counts, and 0 for none
-abbrev pub counted : Digit → ℕ
-counted (Digit.Is d) = d
-counted Digit.Bad = 0
-
--- what a byte counts, in any base (A to F in decimal too: the field is then not the writing of its value)
+-- what a byte counts as a digit, 0 if it is none, in any base (A to F in decimal too: the field is then not the writing of its value)
 abbrev pub worth_of : ℕ → ℕ
-worth_of b = counted (hex_digit b)
+worth_of b = unwrap_or (hex_digit b) 0
 
 -- the value in a base of more digits behind those of the value v
 unfoldable pub value_from : (base v : ℕ) → List ℕ → ℕ
@@ -79,9 +71,9 @@ abbrev pub decimal_of : ℕ → List ℕ
 decimal_of n = decimal_in 20 n
 
 -- a field as a number below 2^64: the one whose writing it is
-unfoldable pub decimal_read : List ℕ → Decimal
+unfoldable pub decimal_read : List ℕ → Option ℕ
 decimal_read field =
-    cond (nat_lt (value_of 10 field) (2 ^ 64) && same_bytes field (decimal_of (value_of 10 field))) (Decimal.Is (value_of 10 field)) Decimal.Bad
+    cond (nat_lt (value_of 10 field) (2 ^ 64) && same_bytes field (decimal_of (value_of 10 field))) (Some (value_of 10 field)) None
 
 -- ---- hexadecimal
 
@@ -99,5 +91,5 @@ abbrev pub hex_of : ℕ → List ℕ
 hex_of n = hex_in 8 n
 
 -- a field as a number below 2^32: the one whose writing it is
-unfoldable pub hex_read : List ℕ → Hex
-hex_read field = cond (nat_lt (value_of 16 field) (2 ^ 32) && same_bytes field (hex_of (value_of 16 field))) (Hex.Is (value_of 16 field)) Hex.Bad
+unfoldable pub hex_read : List ℕ → Option ℕ
+hex_read field = cond (nat_lt (value_of 16 field) (2 ^ 32) && same_bytes field (hex_of (value_of 16 field))) (Some (value_of 16 field)) None

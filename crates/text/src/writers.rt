@@ -20,13 +20,12 @@ pub fn put_byte(out: &mut [u8], at: usize, b: u8) -> usize
 pub fn put_bytes(out: &mut [u8], at: usize, text: &[u8]) -> usize
     ensures { written out.new result ≡ writing out.old at text.now }
 {
-    let mut next = at;
-    let mut i = 0;
-    while i < text.len() {
-        next = put_byte(out, next, text[i]);
-        i += 1;
+    let end = at.saturating_add(text.len()).min(out.len());
+    if end < at {
+        return at;
     }
-    next
+    out[at..end].copy_from_slice(&text[..end - at]);
+    end
 }
 
 pub fn put_decimal(out: &mut [u8], at: usize, n: u64) -> usize

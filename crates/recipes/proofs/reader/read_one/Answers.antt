@@ -6,12 +6,12 @@ use Rattle.recipes.proofs.reader.read_one.Goals as goal
 pub returns-then-tab-fields : goal.returns-then-tab-fields
 returns-then-tab-fields c = let f = c.first-tab.ensures in rw ((first_by f).some c.if-tab-fields.true, ← f)
 
-pub returns-in-Is : goal.returns-in-Is
-returns-in-Is c =
+pub returns-in-Some : goal.returns-in-Some
+returns-in-Some c =
     let f = first_by c.first-tab.ensures in
-    rw (f.whole c.if-tab-fields.false, f.none c.if-tab-fields.false, ← c.digit_of.ensures, c.in-Is.is)
+    rw (f.whole c.if-tab-fields.false, f.none c.if-tab-fields.false, ← c.digit_of.ensures, c.in-Some.is)
 
-pub returns-in-Bad : goal.returns-in-Bad
-returns-in-Bad c =
+pub returns-in-None : goal.returns-in-None
+returns-in-None c =
     let f = first_by c.first-tab.ensures in
-    rw (f.whole c.if-tab-fields.false, f.none c.if-tab-fields.false, ← c.digit_of.ensures, c.in-Bad.is)
+    rw (f.whole c.if-tab-fields.false, f.none c.if-tab-fields.false, ← c.digit_of.ensures, c.in-None.is)

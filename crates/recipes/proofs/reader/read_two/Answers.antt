@@ -35,7 +35,7 @@ pub returns-in_default : goal.returns-in_default
 returns-in_default c = rw (two (goal.at.returns-in_default c).Else-end-second, ← c.digit_of.ensures, c.in_default.is)
 
 pub returns-in_default-digit_of : goal.returns-in_default-digit_of
-returns-in_default-digit_of c = rw (two (goal.at.returns-in_default-digit_of c).Else-end-second, ← c.digit_of.ensures, c.in-Is.is, ← c.digit_of-2.ensures, c.in_default-digit_of.is)
+returns-in_default-digit_of c = rw (two (goal.at.returns-in_default-digit_of c).Else-end-second, ← c.digit_of.ensures, c.in-Some.is, ← c.digit_of-2.ensures, c.in_default-digit_of.is)
 
 pub returns : goal.returns
-returns c = rw (two (goal.at.returns c).Else-end-second, ← c.digit_of.ensures, c.in-Is.is, ← c.digit_of-2.ensures, c.in-Is-digit_of.is)
+returns c = rw (two (goal.at.returns c).Else-end-second, ← c.digit_of.ensures, c.in-Some.is, ← c.digit_of-2.ensures, c.in-Some-digit_of.is)

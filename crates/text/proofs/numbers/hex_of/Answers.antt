@@ -1,49 +1,26 @@
--- `text::numbers::hex_of` meets its contract: the loop finds the value of the digits wherever it is below 2^32, and the field is held to its writing.
--- Assumes nothing.
-use Rattle.std.proofs.Common.{◌≡◌, ℕ, ◌+◌, ◌*◌, ◌%◌, ◌^◌, ◌<◌, ◌≤◌, Bool, List, length, take, cond, sym, refl, mod-lt, mod-eq_of_lt, arith, lit<, lit≤, take_all, rules}
-use Rattle.text.specs.declared.types.Hex.TheVariants.{Is, Bad}
-use Rattle.text.specs.Text.{value_from, value_of, worth_of, same_bytes, hex_of, hex_read}
-use Rattle.text.proofs.Values.{worth_small, value_turn, hex_read_lem}
+-- `text::numbers::hex_of` meets its contract: the field is held to the writing of its digits' value. Assumes nothing.
+use Rattle.std.proofs.Common.{◌≡◌, ℕ, ◌^◌, ◌<◌, ◌≤◌, ◌∙◌, Some, None, Result, Ok, Err, mod-eq_of_lt, arith}
+use Rattle.std.specs.Result.{OkIff, result_ok}
+use Rattle.text.proofs.Texts.{same_pointwise}
+use Rattle.text.proofs.Values.{hex_over, hex_read_lem}
 use Rattle.text.proofs.numbers.hex_of.Goals as goal
 
--- one digit more keeps below 2^32
-room : (v d b : ℕ) → d ≡ worth_of b → v % 0x10000000 * 16 + d < 2 ^ 32
-room v d b e =
-    let h = mod-lt v {m = 0x10000000} (lit< tt) in
-    let small : d < 16 = rw e (worth_small b) in
-    omega arith
+-- what `try_from` and `ok` let through is the number itself, and what they don't has no room
+kept : {E : Type 0} (r : Result ℕ E) (w x : ℕ) → OkIff r (w < 2 ^ 32) w → Some x ≡ result_ok r → x ≡ w
+kept (Ok y) w x t e = let is : x ≡ y = cc in is ∙ t.1
+kept (Err _) w x t e = cc
 
--- the field is held to the writing of the value
-answer : (field text : List ℕ) (v i : ℕ) (r : Bool) → length field ≤ i → v < 2 ^ 32 → (value_of 16 (take i field) < 2 ^ 32 → v ≡ value_of 16 (take i field))
-    → text ≡ hex_of v → r ≡ same_bytes field text → cond r (Is v) Bad ≡ hex_read field
-answer field text v i r whole small agrees is said = rw (said, is) (hex_read_lem field v small (rw (take_all i field whole) at agrees))
+lost : {E : Type 0} (r : Result ℕ E) (w : ℕ) → OkIff r (w < 2 ^ 32) w → None ≡ result_ok r → 2 ^ 32 ≤ w
+lost (Ok y) w t e = cc
+lost (Err _) w t e = omega arith
 
-pub loop-i-init : goal.loop-i-init
-unfolding value_from
-loop-i-init c = (search rules, search rules, λ l. refl)
-
-pub overflow_mul-value : goal.overflow_mul-value
-overflow_mul-value c = let h = mod-lt c.loop-i.value {m = 0x10000000} (lit< tt) in search rules
-
-pub overflow_add-value : goal.overflow_add-value
-overflow_add-value c = let h = room c.loop-i.value c.worth-d.result _ c.worth-d.ensures in search rules
-
-pub loop-i-preserved : goal.loop-i-preserved
-loop-i-preserved c =
-    let l = c.loop-i in
-    let field = c.args.field.now in
-    let h = room l.value c.worth-d.result _ c.worth-d.ensures in
-    let whole = sym (mod-eq_of_lt h) in (
-      search rules,
-      h,
-      value_turn 16 0x10000000 (2 ^ 32) (lit< tt) (lit≤ tt) field l.i l.value _ (search rules) l.invariant.2
-          (rw c.worth-d.ensures (rw c.worth-d.ensures at whole)),
-    )
-
-pub returns-then-same : goal.returns-then-same
-returns-then-same c = rw c.if-same.true at (answer c.args.field.now _ c.loop-i.value c.loop-i.i _ c.loop-i-test.false c.loop-i.invariant.1 c.loop-i.invariant.2
-    c.hex-digits.ensures c.same.ensures)
+pub returns-in_err-value : goal.returns-in_err-value
+returns-in_err-value c =
+    c.from_residual.ensures ∙ hex_over c.args.field.now _ c.value_in.ensures (lost c.try_from.result c.value_in.result c.try_from.ensures c.in_err-value.ensures.value)
 
 pub returns : goal.returns
-returns c = rw c.if-same.false at (answer c.args.field.now _ c.loop-i.value c.loop-i.i _ c.loop-i-test.false c.loop-i.invariant.1 c.loop-i.invariant.2
-    c.hex-digits.ensures c.same.ensures)
+returns c =
+    let v = c.in_ok-value.value in
+    let is : v ≡ c.value_in.result = kept c.try_from.result c.value_in.result v c.try_from.ensures c.in_ok-value.ensures.value in
+    rw (c.then_some.ensures, c.eq.ensures, c.as_slice.ensures, c.hex.ensures, same_pointwise)
+    (hex_read_lem c.args.field.now v (omega arith) (λ l. is ∙ (c.value_in.ensures ∙ mod-eq_of_lt (omega arith))))

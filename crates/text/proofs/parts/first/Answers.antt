@@ -1,19 +1,14 @@
--- `text::parts::first` meets its contract: `b` itself ends what stands before it, another byte is one more. Assumes nothing.
-use Rattle.std.proofs.Common.{◌≡◌, length, [], drop, arith}
-use Rattle.std.proofs.Math.Seq.{drop-length}
-use Rattle.text.specs.Text.{before}
-use Rattle.text.proofs.Texts.{index_here, index_next}
+-- `text::parts::first` meets its contract: `position` finds the first place at which `b` stands. Assumes nothing.
+use Rattle.std.proofs.Common.{◌∙◌, ap, eqb, length, rules}
+use Rattle.std.specs.Option.{unwrap_or}
+use Rattle.std.proofs.lemmas.Iterator.{YieldsList-from_slice}
+use Rattle.std.proofs.lemmas.Iterator.Search.{position_from_yields_List}
+use Rattle.text.proofs.Texts.{first_found}
 use Rattle.text.proofs.parts.first.Goals as goal
 
-pub returns-then-x-b : goal.returns-then-x-b
-returns-then-x-b c = let e = index_here c.args.b c.loop-i.i c.args.s.now (omega arith) c.if-x-b.true in omega (arith, c.loop-i.invariant)
-
-pub loop-i-preserved : goal.loop-i-preserved
-loop-i-preserved c = let e = index_next c.args.b c.loop-i.i c.args.s.now (omega arith) c.if-x-b.false in omega (arith, c.loop-i.invariant)
-
 pub returns : goal.returns
-unfolding before
 returns c =
-    let all : length c.args.s.now ≡ c.loop-i.i = omega arith in
-    let none : drop c.loop-i.i c.args.s.now ≡ [] = rw (← all) (drop-length c.args.s.now) in
-    omega (arith, rw none at c.loop-i.invariant)
+    let b = c.args.b in
+    let s = c.args.s.now in
+    let found = position_from_yields_List (λ x. eqb x b) _ _ c.position.result c.position.ensures.ran (YieldsList-from_slice s cc) (λ x r q call. search rules) in
+    c.unwrap_or.ensures ∙ (ap (λ r. unwrap_or r (length s)) found ∙ first_found b s)
