@@ -83,7 +83,7 @@ fn all_lines<R: Print, F: Read>(rt: &R, path: &str, file: &mut F) -> io::Result<
     let mut tally = Tally::default();
     for _ in 0..LINES_MAX {
         let mut text = [0u8; LENGTH];
-        if read_text(file, &mut text).n < LENGTH {
+        if !read_text(file, &mut text).is_ok_and(|n| n == LENGTH) {
             break;
         }
         tally.count(rt, path, &text)?;

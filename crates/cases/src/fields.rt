@@ -5,18 +5,10 @@ ghost use Rattle.io.specs.Counts.{IsPrefixLen};
 
 use recipe_calls::TOLD;
 use recipes::types::PRINT_MAX;
+use text::numbers::hex_digit;
 
 // Room for a text: as much as is printed of any listing.
 pub(crate) const ROOM: usize = PRINT_MAX;
-
-// A digit's value.
-fn digit(b: u8) -> Option<u8> {
-    match b {
-        b'0'..=b'9' => Some(b - b'0'),
-        b'A'..=b'F' => Some(b - b'A' + 10),
-        _ => None,
-    }
-}
 
 // What the bytes of a field read so far end with: a whole byte of the text, a backslash, \x, or \x and a digit.
 #[derive(Clone, Copy)]
@@ -34,8 +26,8 @@ impl Last {
             Last::Byte(_) if b == b'\\' => Some(Last::Escape),
             Last::Byte(_) => Some(Last::Byte(b)),
             Last::Escape => escaped(b),
-            Last::Hex => digit(b).map(Last::High),
-            Last::High(high) => digit(b).map(|low| Last::Byte(high << 4 | low)),
+            Last::Hex => hex_digit(b).map(Last::High),
+            Last::High(high) => hex_digit(b).map(|low| Last::Byte(high << 4 | low)),
         }
     }
 }
@@ -74,7 +66,7 @@ fn number_of(field: &[u8]) -> Option<u64> {
         return None;
     }
     field.iter().try_fold(0u64, |value, b| {
-        value.checked_mul(16)?.checked_add(u64::from(digit(*b)?))
+        value.checked_mul(16)?.checked_add(u64::from(hex_digit(*b)?))
     })
 }
 

@@ -6,11 +6,10 @@
 // `tools/recipe-vectors` makes vectors. Flags are X 16, N 8, Z 4, V 2, C 1.
 ghost use Rattle.std.specs.Prelude.{◌+◌, ◌<◌, ◌≤◌};
 
-use alu::types::{Flags, ccr, flags_of};
-use recipes::types::Codes;
+use alu::types::Flags;
 use step::registers::State;
 use text::numbers::hex_of;
-use text::types::{Hex, NEWLINE, TAB};
+use text::types::{NEWLINE, TAB};
 
 const FIELDS: usize = 41;
 
@@ -36,15 +35,13 @@ pub(crate) struct Told {
 impl Told {
     // Only the promised flags are compared.
     pub(crate) fn same_flags(&self, flags: Flags) -> bool {
-        (ccr(flags) ^ ccr(self.flags)) & ccr(self.promised) == 0
+        (u8::from(flags) ^ u8::from(self.flags)) & u8::from(self.promised) == 0
     }
 
-    // All five flags are told where all are promised, and left open where only X is.
-    pub(crate) fn same_codes(&self, codes: Codes) -> bool {
-        match codes {
-            Codes::Open => ccr(self.promised) == ONLY_X,
-            Codes::Known(flags) => ccr(self.promised) == ALL && self.same_flags(flags),
-        }
+    // All five flags are told where all are promised, and none where only X is.
+    pub(crate) fn same_codes(&self, codes: Option<Flags>) -> bool {
+        let promised = u8::from(self.promised);
+        codes.map_or(promised == ONLY_X, |flags| promised == ALL && self.same_flags(flags))
     }
 }
 
@@ -79,10 +76,7 @@ impl TryFrom<&[u8; LENGTH]> for Header {
             if head[at + 8] != behind {
                 return Err(Malformed);
             }
-            match hex_of(&head[at..at + 8]) {
-                Hex::Is(value) => *number = value,
-                Hex::Bad => return Err(Malformed),
-            }
+            *number = hex_of(&head[at..at + 8]).ok_or(Malformed)?;
         }
         Ok(Header(numbers))
     }
@@ -101,7 +95,7 @@ impl Header {
     fn flags(&self, k: usize) -> Flags
         requires { k < 41 }
     {
-        flags_of((self.0[k] & 0xff) as u8)
+        Flags::from((self.0[k] & 0xff) as u8)
     }
 
     // Registers, flags and those promised, behind one another.

@@ -51,12 +51,10 @@ fn next<'a, R: Read>(
     room: &'a mut [u8],
 ) -> Result<Option<(Vector, &'a [u8])>, Malformed> {
     let mut head = [0u8; LENGTH];
-    let got = read_text(from, &mut head).n;
-    if got == 0 {
-        return Ok(None);
-    }
-    if got < LENGTH {
-        return Err(Malformed);
+    match read_text(from, &mut head).unwrap_or_else(|failed| failed.n) {
+        0 => return Ok(None),
+        LENGTH => {}
+        _ => return Err(Malformed),
     }
     let header = Header::try_from(&head)?;
     let length = header.text_length();
@@ -64,7 +62,7 @@ fn next<'a, R: Read>(
         return Err(Malformed);
     }
     let text = &mut room[..length];
-    if read_text(from, text).n < length {
+    if !read_text(from, text).is_ok_and(|n| n == length) {
         return Err(Malformed);
     }
     Ok(Some((header.vector(), text)))

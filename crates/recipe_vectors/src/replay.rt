@@ -6,11 +6,11 @@ use crate::header::Vector;
 use recipes::reader::read;
 use recipes::runner::run_text;
 use recipes::translator::translate_array;
-use recipes::types::{RecipeRun, is_nothing};
+use recipes::types::RecipeRun;
 use std::fmt;
 use step::forms::Step;
 use step::registers::State;
-use step::runs::{End, Ran, SLOTS, begun, resumed};
+use step::runs::{End, Ran, begun, resumed};
 
 // What is not as it ought to be.
 #[derive(Clone, Copy)]
@@ -65,14 +65,14 @@ impl Slip {
 #[derive(Clone, Copy)]
 struct Case<'a> {
     vector: &'a Vector,
-    listing: &'a [Step; SLOTS],
+    listing: &'a [Step],
 }
 
 impl Case<'_> {
     // One more run, from where another halted.
     fn run(&self, ran: Ran, budget: u32, runs: &mut u64) -> Ran {
         *runs = runs.wrapping_add(1);
-        resumed(*self.listing, self.vector.steps as usize, ran, budget)
+        resumed(self.listing, ran, budget)
     }
 
     // The run before its first step.
@@ -161,11 +161,10 @@ impl Case<'_> {
 
 // A recipe that was run as a whole.
 fn judge_recipe(vector: &Vector, run: &RecipeRun) -> Result<(), Slip> {
-    let accepted = is_nothing(run.refused) && run.refused.line == 0;
     let counted = run.steps == vector.steps && run.clocks == vector.clocks;
     let registers = run.d == vector.end.data && run.a == vector.before.a;
     let told = run.x == vector.end.flags.x && vector.end.same_codes(run.codes);
-    if accepted && counted && registers && told {
+    if counted && registers && told {
         Ok(())
     } else {
         Err(Slip::Recipe)
@@ -174,15 +173,9 @@ fn judge_recipe(vector: &Vector, run: &RecipeRun) -> Result<(), Slip> {
 
 // Its text is read and translated, and the listing is halted at every place.
 fn replay_listing(vector: &Vector, text: &[u8], runs: &mut u64) -> Result<(), Failure> {
-    let reading = read(text);
-    if !is_nothing(reading.refused) {
-        return Err(Slip::Reading.at(0));
-    }
-    let made = translate_array(reading.recipe);
-    if !is_nothing(made.refused) {
-        return Err(Slip::Translation.at(0));
-    }
-    if made.count != vector.steps as usize {
+    let recipe = read(text).map_err(|_| Slip::Reading.at(0))?;
+    let listing = translate_array(recipe).map_err(|_| Slip::Translation.at(0))?;
+    if listing.count != vector.steps as usize {
         return Err(Slip::Count.at(0));
     }
     // It would never be met.
@@ -191,7 +184,7 @@ fn replay_listing(vector: &Vector, text: &[u8], runs: &mut u64) -> Result<(), Fa
     }
     let case = Case {
         vector,
-        listing: &made.steps,
+        listing: listing.steps(),
     };
     case.halted_at_each(runs)?;
     case.step_by_step(runs)
@@ -201,5 +194,8 @@ fn replay_listing(vector: &Vector, text: &[u8], runs: &mut u64) -> Result<(), Fa
 pub(crate) fn replay(vector: &Vector, text: &[u8], runs: &mut u64) -> Result<(), Failure> {
     replay_listing(vector, text, runs)?;
     *runs = runs.wrapping_add(1);
-    judge_recipe(vector, &run_text(text, vector.before)).map_err(|slip| slip.at(vector.steps))
+    run_text(text, vector.before)
+        .map_err(|_| Slip::Recipe)
+        .and_then(|run| judge_recipe(vector, &run))
+        .map_err(|slip| slip.at(vector.steps))
 }
