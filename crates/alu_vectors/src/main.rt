@@ -57,8 +57,7 @@ struct Tally {
 
 impl fmt::Display for Tally {
     fn fmt<W: fmt::Write>(&self, f: &mut fmt::Formatter<W>) -> fmt::Result {
-        let Tally { cases, failed } = *self;
-        write!(f, "{cases} cases, {failed} failed")
+        write!(f, "{} cases, {} failed", self.cases, self.failed)
     }
 }
 
@@ -72,8 +71,7 @@ impl Tally {
             return Ok(());
         }
         self.failed = self.failed.wrapping_add(1);
-        let number = self.cases;
-        print!(rt; "failed: {path} line {number}, got {got:016x} for ")?;
+        print!(rt; "failed: {path} line {}, got {got:016x} for ", self.cases)?;
         rt.write_all(text)
     }
 }

@@ -66,7 +66,9 @@ fn number_of(field: &[u8]) -> Option<u64> {
         return None;
     }
     field.iter().try_fold(0u64, |value, b| {
-        value.checked_mul(16)?.checked_add(u64::from(hex_digit(*b)?))
+        value
+            .checked_mul(16)?
+            .checked_add(u64::from(hex_digit(*b)?))
     })
 }
 
@@ -95,7 +97,7 @@ pub(crate) fn long(n: u64) -> u32 {
 }
 
 // What is told, as a row has its first numbers; the others are 0.
-pub(crate) fn told(numbers: &[u64]) -> [u64; TOLD]
+pub(crate) fn told_of(numbers: &[u64]) -> [u64; TOLD]
     requires { length numbers.now ≤ 8 }
 {
     let mut told = [0; TOLD];

@@ -27,8 +27,7 @@ struct Tally {
 
 impl fmt::Display for Tally {
     fn fmt<W: fmt::Write>(&self, f: &mut fmt::Formatter<W>) -> fmt::Result {
-        let Tally { cases, failed, .. } = *self;
-        write!(f, "{cases} cases, {failed} failed")
+        write!(f, "{} cases, {} failed", self.cases, self.failed)
     }
 }
 
@@ -43,12 +42,11 @@ impl Tally {
         let name = row.split(|b| *b == b'\t').next().unwrap_or(row);
         print!(rt; "failed: ")?;
         rt.write_all(name)?;
-        let line = self.lines;
-        println!(rt; " ({path} line {line})")
+        println!(rt; " ({path} line {})", self.lines)
     }
 }
 
-// The tally of all lines; one that is not whole fails.
+// The tally of all lines; one that is not whole fails. Of a row `judge` says whether it is as it ought to be, if it reads.
 fn all_lines<R: Print, J: Fn(&[u8]) -> Option<bool>>(
     rt: &R,
     path: &str,

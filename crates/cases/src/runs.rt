@@ -4,7 +4,7 @@
 // is told.
 ghost use Rattle.std.specs.Prelude.{◌≡◌, length};
 
-use crate::fields::{byte, long, numbers_of, told};
+use crate::fields::{byte, long, numbers_of, told_of};
 use recipe_calls::{TOLD, listing_run};
 
 // The numbers before the words, and as many words as a listing may have.
@@ -108,7 +108,7 @@ pub(crate) fn runs(row: &[u8]) -> Option<bool> {
         start: head[0],
         budget: long(head[1]),
         before: run_of(&head[3..7], [1; TOLD]),
-        after: run_of(&head[14..18], told(&head[7..14])),
+        after: run_of(&head[14..18], told_of(&head[7..14])),
     };
     Some(case.is_as_told())
 }

@@ -3,7 +3,7 @@
 // Of refusals.tsv: all that is printed for it.
 // Of recipes.tsv, by their columns: 2 flags, 3 to 10 D0 to D7 before; 11 to 16 what is told (bindings/c/gromavelush.h); 17 flags,
 // 18 to 25 D0 to D7 after. The address registers have fixed values and keep them.
-use crate::fields::{ROOM, byte, long, numbers_of, text_of, told};
+use crate::fields::{ROOM, byte, long, numbers_of, text_of, told_of};
 use recipe_calls::{TOLD, recipe_answer, recipe_run};
 
 // Whether all that is printed for the row's text is as the row has it; none where the row does not read. Behind what is printed,
@@ -47,10 +47,10 @@ pub(crate) fn runs(row: &[u8]) -> Option<bool> {
     let mut d = registers(&numbers[1..9]);
     let mut a = FIXED;
     let mut flags = byte(numbers[0]);
-    let mut tells = [1u64; TOLD];
-    recipe_run(&text[..length], &mut d, &mut a, &mut flags, &mut tells);
+    let mut told = [1u64; TOLD];
+    recipe_run(&text[..length], &mut d, &mut a, &mut flags, &mut told);
     Some(
-        tells == told(&numbers[9..15])
+        told == told_of(&numbers[9..15])
             && u64::from(flags) == numbers[15]
             && d == registers(&numbers[16..24])
             && a == FIXED,

@@ -41,7 +41,10 @@ impl Told {
     // All five flags are told where all are promised, and none where only X is.
     pub(crate) fn same_codes(&self, codes: Option<Flags>) -> bool {
         let promised = u8::from(self.promised);
-        codes.map_or(promised == ONLY_X, |flags| promised == ALL && self.same_flags(flags))
+        codes.map_or(
+            promised == ONLY_X,
+            |flags| promised == ALL && self.same_flags(flags),
+        )
     }
 }
 

@@ -23,12 +23,11 @@ struct Tally {
 
 impl fmt::Display for Tally {
     fn fmt<W: fmt::Write>(&self, f: &mut fmt::Formatter<W>) -> fmt::Result {
-        let Tally {
-            recipes,
-            runs,
-            failed,
-        } = *self;
-        write!(f, "{recipes} recipes, {runs} runs, {failed} failed")
+        write!(
+            f,
+            "{} recipes, {} runs, {} failed",
+            self.recipes, self.runs, self.failed
+        )
     }
 }
 
@@ -40,8 +39,7 @@ impl Tally {
             return Ok(());
         };
         self.failed = self.failed.wrapping_add(1);
-        let recipe = self.recipes;
-        println!(rt; "failed: recipe {recipe}, place {place}: {slip}")
+        println!(rt; "failed: recipe {}, place {place}: {slip}", self.recipes)
     }
 }
 
@@ -68,7 +66,7 @@ fn next<'a, R: Read>(
     Ok(Some((header.vector(), text)))
 }
 
-// The tally of all vectors. A proved loop has to end: it takes at most more than any input has.
+// The tally of all vectors. A proved loop has to end: this one does after more than any input has.
 fn all_vectors<R: Print, I: Read>(rt: &R, from: &mut I) -> io::Result<Tally> {
     let mut tally = Tally::default();
     for _ in 0..u32::MAX {
