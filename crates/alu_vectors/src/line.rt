@@ -4,76 +4,75 @@
 //
 // The figure FF stands for none: the crate returns no figure of ADDX and SUBX. The class is CHK's, 0 of
 // the others; 1 stands for Over or Short, which the crate doesn't tell apart.
-ghost use Rattle.std.specs.Prelude.{◌+◌, ◌^◌, ◌<◌, ◌≤◌};
-
 use text::numbers::worth;
 
+// A line's bytes, with its line end.
+pub(crate) const LENGTH: usize = 43;
+
+// The figure that stands for none.
+const NO_FIGURE: u8 = 0xff;
+
+// What is asked of an operation, and what the crate answered.
 #[derive(Clone, Copy)]
 pub(crate) struct Line {
-    pub op: u8,
-    pub size: u8,
-    pub src: u32,
-    pub dst: u32,
-    pub ccr: u8,
-    pub result: u32,
-    pub flags: u32,
-    pub figure: u32,
-    pub class: u32,
+    op: u8,
+    size: u8,
+    src: u32,
+    dst: u32,
+    ccr: u8,
+    result: u32,
+    flags: u8,
+    figure: Option<u8>,
+    class: u8,
 }
 
-// A hexadecimal digit's value. A byte that is none counts as 0, and the line then fails.
-fn digit(b: u8) -> u32
-    ensures { result < 16 }
-{
-    (worth(b) % 16) as u32
+// The number of a field. A byte that is no hexadecimal digit counts as 0, and the line then fails.
+fn number(field: &[u8]) -> u32 {
+    field
+        .iter()
+        .fold(0, |value: u32, b| value << 4 | u32::from(worth(*b)))
 }
 
-fn two(line: &[u8; 43], at: usize) -> u32
-    requires { at + 2 ≤ 43 }
-    ensures { result < 2 ^ 8 }
-{
-    digit(line[at]) * 16 + digit(line[at + 1])
+// The number of a field of one or two digits.
+fn byte(field: &[u8]) -> u8 {
+    (number(field) & 0xff) as u8
 }
 
-fn eight(line: &[u8; 43], at: usize) -> u32
-    requires { at + 8 ≤ 43 }
-{
-    (two(line, at) * 0x100 + two(line, at + 2)) * 0x1_0000
-        + two(line, at + 4) * 0x100
-        + two(line, at + 6)
-}
-
-pub(crate) fn read(line: &[u8; 43]) -> Line {
-    Line {
-        op: two(line, 0) as u8,
-        size: digit(line[3]) as u8,
-        src: eight(line, 5),
-        dst: eight(line, 14),
-        ccr: two(line, 23) as u8,
-        result: eight(line, 26),
-        flags: two(line, 35),
-        figure: two(line, 38),
-        class: digit(line[41]),
+impl From<&[u8; LENGTH]> for Line {
+    fn from(line: &[u8; LENGTH]) -> Line {
+        Line {
+            op: byte(&line[0..2]),
+            size: byte(&line[3..4]),
+            src: number(&line[5..13]),
+            dst: number(&line[14..22]),
+            ccr: byte(&line[23..25]),
+            result: number(&line[26..34]),
+            flags: byte(&line[35..37]),
+            figure: Some(byte(&line[38..40])).filter(|figure| *figure != NO_FIGURE),
+            class: byte(&line[41..42]),
+        }
     }
 }
 
-// What the library answers.
-pub(crate) fn answer(line: Line) -> u64 {
-    calls::alu_call(line.op, line.size, line.src, line.dst, line.ccr)
-}
+impl Line {
+    // What the library answers.
+    pub(crate) fn answer(&self) -> u64 {
+        calls::alu_call(self.op, self.size, self.src, self.dst, self.ccr)
+    }
 
-// Whether that is the line's result, flags, figure and class, and no refusal.
-pub(crate) fn agrees(line: Line, got: u64) -> bool {
-    let class = got / 0x10_0000_0000_0000;
-    let refusal = got / 0x1_0000_0000_0000 % 0x10;
-    let figure = got / 0x100_0000_0000 % 0x100;
-    let flags = got / 0x1_0000_0000 % 0x100;
-    let result = got % 0x1_0000_0000;
-    let same_class = class == line.class as u64 || class == 2 && line.class == 1;
-    let same_figure = figure == line.figure as u64 || line.figure == 0xff;
-    refusal == 0
-        && same_class
-        && same_figure
-        && flags == line.flags as u64
-        && result == line.result as u64
+    // Whether that is the line's result, flags, figure and class, and no refusal.
+    pub(crate) fn agrees(&self, got: u64) -> bool {
+        let class = got >> 52;
+        let refusal = got >> 48 & 0xf;
+        let figure = got >> 40 & 0xff;
+        let flags = got >> 32 & 0xff;
+        let result = got & 0xffff_ffff;
+        let same_class = class == u64::from(self.class) || class == 2 && self.class == 1;
+        let same_figure = self.figure.is_none_or(|wanted| figure == u64::from(wanted));
+        refusal == 0
+            && same_class
+            && same_figure
+            && flags == u64::from(self.flags)
+            && result == u64::from(self.result)
+    }
 }

@@ -6,70 +6,95 @@
 mod line;
 
 use input::{LINE_MAX, failure_line, read_text};
+use line::{LENGTH, Line};
 use std::fs::File;
-use std::io;
 use std::io::Read;
 use std::rt::Files;
+use std::{fmt, io};
 
-#[derive(Clone, Copy)]
+// One for each operation.
+const FILES: [&str; 30] = [
+    "add.tsv",
+    "sub.tsv",
+    "cmp.tsv",
+    "addx.tsv",
+    "subx.tsv",
+    "adda.tsv",
+    "suba.tsv",
+    "cmpa.tsv",
+    "addq.tsv",
+    "subq.tsv",
+    "addqa.tsv",
+    "subqa.tsv",
+    "clr.tsv",
+    "neg.tsv",
+    "negx.tsv",
+    "not.tsv",
+    "ext.tsv",
+    "asl.tsv",
+    "asr.tsv",
+    "lsl.tsv",
+    "lsr.tsv",
+    "rol.tsv",
+    "ror.tsv",
+    "roxl.tsv",
+    "roxr.tsv",
+    "btst.tsv",
+    "bset.tsv",
+    "bclr.tsv",
+    "bchg.tsv",
+    "chk.tsv",
+];
+
+// More lines than a file has: a proved loop has to end.
+const LINES_MAX: u32 = 1_000_000;
+
+#[derive(Clone, Copy, Default)]
 struct Tally {
     cases: u64,
     failed: u64,
 }
 
-fn report<R: Print>(rt: &R, path: &str, number: u64, text: &[u8], got: u64) -> io::Result<()> {
-    print!(rt; "failed: {path} line {number}, got {got:016x} for ")?;
-    rt.write_all(text)
-}
-
-// One more line in the tally.
-fn counted<R: Print>(rt: &R, t: Tally, path: &str, text: &[u8; 43]) -> io::Result<Tally> {
-    let cases = t.cases.wrapping_add(1);
-    let case = line::read(text);
-    let got = line::answer(case);
-    if line::agrees(case, got) {
-        return Ok(Tally {
-            cases,
-            failed: t.failed,
-        });
+impl fmt::Display for Tally {
+    fn fmt<W: fmt::Write>(&self, f: &mut fmt::Formatter<W>) -> fmt::Result {
+        write!(f, "{} cases, {} failed", self.cases, self.failed)
     }
-    report(rt, path, cases, text, got)?;
-    Ok(Tally {
-        cases,
-        failed: t.failed.wrapping_add(1),
-    })
 }
 
-// The tally of all lines. A proved loop has to end: it counts down from more lines than a file has.
+impl Tally {
+    // One more line; one with another answer is told.
+    fn count<R: Print>(&mut self, rt: &R, path: &str, text: &[u8; LENGTH]) -> io::Result<()> {
+        self.cases = self.cases.wrapping_add(1);
+        let line = Line::from(text);
+        let got = line.answer();
+        if line.agrees(got) {
+            return Ok(());
+        }
+        self.failed = self.failed.wrapping_add(1);
+        print!(rt; "failed: {path} line {}, got {got:016x} for ", self.cases)?;
+        rt.write_all(text)
+    }
+}
+
+// The tally of all lines.
 fn all_lines<R: Print, F: Read>(rt: &R, path: &str, file: &mut F) -> io::Result<Tally> {
-    let mut t = Tally {
-        cases: 0,
-        failed: 0,
-    };
-    let mut turns: u32 = 1_000_000;
-    while turns > 0 {
-        let mut text = [0u8; 43];
-        let Ok(43) = read_text(file, &mut text) else {
+    let mut tally = Tally::default();
+    for _ in 0..LINES_MAX {
+        let mut text = [0u8; LENGTH];
+        if !read_text(file, &mut text).is_ok_and(|n| n == LENGTH) {
             break;
-        };
-        t = counted(rt, t, path, &text)?;
-        turns -= 1;
+        }
+        tally.count(rt, path, &text)?;
     }
-    Ok(t)
-}
-
-fn print_counts<R: Print>(rt: &R, path: &str, t: Tally) -> io::Result<()> {
-    let cases = t.cases;
-    let failed = t.failed;
-    println!(rt; "{path}: {cases} cases, {failed} failed")
+    Ok(tally)
 }
 
 // A file that can't be opened is told, and passed over.
 fn replay(rt: &HostRuntime, path: &str) -> io::Result<()> {
     match File::open(rt, path) {
         Ok(mut file) => {
-            let t = all_lines(rt, path, &mut file)?;
-            print_counts(rt, path, t)
+            let tally = all_lines(rt, path, &mut file)?;
+            println!(rt; "{path}: {tally}")
         }
         Err(error) => {
             let mut line = [0u8; LINE_MAX];
@@ -81,34 +106,8 @@ fn replay(rt: &HostRuntime, path: &str) -> io::Result<()> {
 }
 
 fn main(rt: HostRuntime) -> io::Result<()> {
-    replay(&rt, "add.tsv")?;
-    replay(&rt, "sub.tsv")?;
-    replay(&rt, "cmp.tsv")?;
-    replay(&rt, "addx.tsv")?;
-    replay(&rt, "subx.tsv")?;
-    replay(&rt, "adda.tsv")?;
-    replay(&rt, "suba.tsv")?;
-    replay(&rt, "cmpa.tsv")?;
-    replay(&rt, "addq.tsv")?;
-    replay(&rt, "subq.tsv")?;
-    replay(&rt, "addqa.tsv")?;
-    replay(&rt, "subqa.tsv")?;
-    replay(&rt, "clr.tsv")?;
-    replay(&rt, "neg.tsv")?;
-    replay(&rt, "negx.tsv")?;
-    replay(&rt, "not.tsv")?;
-    replay(&rt, "ext.tsv")?;
-    replay(&rt, "asl.tsv")?;
-    replay(&rt, "asr.tsv")?;
-    replay(&rt, "lsl.tsv")?;
-    replay(&rt, "lsr.tsv")?;
-    replay(&rt, "rol.tsv")?;
-    replay(&rt, "ror.tsv")?;
-    replay(&rt, "roxl.tsv")?;
-    replay(&rt, "roxr.tsv")?;
-    replay(&rt, "btst.tsv")?;
-    replay(&rt, "bset.tsv")?;
-    replay(&rt, "bclr.tsv")?;
-    replay(&rt, "bchg.tsv")?;
-    replay(&rt, "chk.tsv")
+    for path in FILES {
+        replay(&rt, path)?;
+    }
+    Ok(())
 }

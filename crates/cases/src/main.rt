@@ -12,103 +12,64 @@ ghost use Rattle.io.specs.Counts.{IsPrefixLen};
 
 use input::read_text;
 use std::fs::File;
-use std::io;
 use std::rt::Files;
-use text::parts::first;
+use std::{fmt, io};
 
 // Room for a file. One that fills it is too long, and its last line is not whole.
 const FILE: usize = 65536;
 
-const LAST: usize = FILE - 1;
-
-#[derive(Clone, Copy)]
-enum Kind {
-    Refusals,
-    Runs,
-    Recipes,
-}
-
-#[derive(Clone, Copy)]
+#[derive(Clone, Copy, Default)]
 struct Tally {
     lines: u64,
     cases: u64,
     failed: u64,
 }
 
-// Whether a row is as it ought to be; its name ends at `name`.
-fn judge(kind: Kind, row: &[u8], name: usize) -> bool {
-    match kind {
-        Kind::Refusals => texts::judge(row, name, false),
-        Kind::Runs => runs::judge(row, name),
-        Kind::Recipes => texts::judge(row, name, true),
+impl fmt::Display for Tally {
+    fn fmt<W: fmt::Write>(&self, f: &mut fmt::Formatter<W>) -> fmt::Result {
+        write!(f, "{} cases, {} failed", self.cases, self.failed)
     }
 }
 
-fn report<R: Print>(rt: &R, path: &str, line: u64, row: &[u8], name: usize) -> io::Result<()>
-    requires { name ≤ length row.now }
-{
-    print!(rt; "failed: ")?;
-    rt.write_all(&row[0..name])?;
-    println!(rt; " ({path} line {line})")
-}
-
-fn is_comment(row: &[u8]) -> bool {
-    if row.len() == 0 {
-        return false;
-    }
-    row[0] == b'#'
-}
-
-fn counted(t: Tally, failed: u64) -> Tally {
-    Tally {
-        lines: t.lines,
-        cases: t.cases.wrapping_add(1),
-        failed: t.failed.wrapping_add(failed),
+impl Tally {
+    // One more line; a row that fails is told.
+    fn count<R: Print>(&mut self, rt: &R, path: &str, row: &[u8], passed: bool) -> io::Result<()> {
+        self.cases = self.cases.wrapping_add(1);
+        if passed {
+            return Ok(());
+        }
+        self.failed = self.failed.wrapping_add(1);
+        let name = row.split(|b| *b == b'\t').next().unwrap_or(row);
+        print!(rt; "failed: ")?;
+        rt.write_all(name)?;
+        println!(rt; " ({path} line {})", self.lines)
     }
 }
 
-// One more line; one that is not whole fails.
-fn with_line<R: Print>(
+// The tally of all lines; one that is not whole fails. Of a row `judge` says whether it is as it ought to be, if it reads.
+fn all_lines<R: Print, J: Fn(&[u8]) -> Option<bool>>(
     rt: &R,
-    t: Tally,
     path: &str,
-    kind: Kind,
-    row: &[u8],
-    whole: bool,
-) -> io::Result<Tally> {
-    let t = Tally {
-        lines: t.lines.wrapping_add(1),
-        cases: t.cases,
-        failed: t.failed,
-    };
-    if is_comment(row) {
-        return Ok(t);
-    }
-    let name = first(row, b'\t');
-    if whole & judge(kind, row, name) {
-        return Ok(counted(t, 0));
-    }
-    report(rt, path, t.lines, row, name)?;
-    Ok(counted(t, 1))
-}
-
-// The tally of all lines.
-fn all_lines<R: Print>(rt: &R, path: &str, kind: Kind, file: &[u8]) -> io::Result<Tally>
-    requires { length file.now ≤ 65536 }
+    judge: &J,
+    file: &[u8],
+) -> io::Result<Tally>
+    requires { J.IsAlwaysCallable judge.now }
 {
-    let mut t = Tally {
-        lines: 0,
-        cases: 0,
-        failed: 0,
-    };
-    let mut at = 0;
-    while at < file.len() {
-        let end = at + first(&file[at..], b'\n');
-        let whole = (end < file.len()) & (end < LAST);
-        t = with_line(rt, t, path, kind, &file[at..end], whole)?;
-        at = end + 1;
+    let mut tally = Tally::default();
+    let mut end: usize = 0;
+    for line in file.split_inclusive(|b| *b == b'\n') {
+        tally.lines = tally.lines.wrapping_add(1);
+        end = end.wrapping_add(line.len());
+        if line.starts_with(b"#") {
+            continue;
+        }
+        let (row, whole) = match line.strip_suffix(b"\n") {
+            Some(row) => (row, end < FILE),
+            None => (line, false),
+        };
+        tally.count(rt, path, row, whole && judge(row) == Some(true))?;
     }
-    Ok(t)
+    Ok(tally)
 }
 
 // The bytes of a file, as far as there is room; of one that can't be read none.
@@ -116,29 +77,26 @@ fn read_file<R: Files>(files: &R, path: &str, file: &mut [u8]) -> usize
     ensures { IsPrefixLen result file.new }
 {
     match File::open(files, path) {
-        Ok(mut opened) => match read_text(&mut opened, file) {
-            Ok(n) => n,
-            Err(failed) => failed.n,
-        },
+        Ok(mut opened) => read_text(&mut opened, file).unwrap_or_else(|failed| failed.n),
         Err(_) => 0,
     }
 }
 
-fn tell<R: Print>(rt: &R, path: &str, t: Tally) -> io::Result<()> {
-    let cases = t.cases;
-    let failed = t.failed;
-    println!(rt; "{path}: {cases} cases, {failed} failed")
-}
-
-fn replay<R: Files + Print>(rt: &R, path: &str, kind: Kind) -> io::Result<()> {
+fn replay<R: Files + Print, J: Fn(&[u8]) -> Option<bool> + Drop>(
+    rt: &R,
+    path: &str,
+    judge: J,
+) -> io::Result<()>
+    requires { J.IsAlwaysCallable judge }
+{
     let mut file = [0u8; FILE];
     let length = read_file(rt, path, &mut file);
-    let t = all_lines(rt, path, kind, &file[..length])?;
-    tell(rt, path, t)
+    let tally = all_lines(rt, path, &judge, &file[..length])?;
+    println!(rt; "{path}: {tally}")
 }
 
 fn main(rt: HostRuntime) -> io::Result<()> {
-    replay(&rt, "refusals.tsv", Kind::Refusals)?;
-    replay(&rt, "runs.tsv", Kind::Runs)?;
-    replay(&rt, "recipes.tsv", Kind::Recipes)
+    replay(&rt, "refusals.tsv", texts::prints)?;
+    replay(&rt, "runs.tsv", runs::runs)?;
+    replay(&rt, "recipes.tsv", texts::runs)
 }

@@ -7,9 +7,9 @@ ghost use Rattle.std.specs.Prelude.{◌≡◌, take};
 ghost use Rattle.io.specs.Counts.{IsPrefixLen};
 ghost use Rattle.recipes.specs.Printer.{answer_of};
 
-use input::{LINE_MAX, failure_line, read_text};
+use input::{LINE_MAX, ReadFailed, failure_line, read_text};
 use recipes::types::{PRINT_MAX, TEXT_MAX};
-use std::io::Write;
+use std::io::{Error, Write};
 
 // The whole answer to a text: the slice has room for any (`answer_short` of recipes/proofs/Room).
 fn answer(text: &[u8], out: &mut [u8; PRINT_MAX]) -> usize
@@ -19,21 +19,23 @@ fn answer(text: &[u8], out: &mut [u8; PRINT_MAX]) -> usize
     recipes::runner::answer(text, out)
 }
 
-fn main(rt: HostRuntime) {
+// Says on standard error what failed, and why.
+fn complain(rt: &HostRuntime, what: &[u8], error: Error) {
     let mut line = [0u8; LINE_MAX];
+    let k = failure_line(&mut line, what, error);
+    let _ = rt.stderr().write_all(&line[..k]);
+}
+
+fn main(rt: HostRuntime) {
     let mut text = [0u8; TEXT_MAX];
-    let n = match read_text(&mut rt.stdin(), &mut text) {
-        Ok(n) => n,
-        Err(failed) => {
-            let k = failure_line(&mut line, b"recipe: standard input", failed.error);
-            let _ = rt.stderr().write_all(&line[..k]);
-            return;
+    match read_text(&mut rt.stdin(), &mut text) {
+        Ok(n) => {
+            let mut out = [0u8; PRINT_MAX];
+            let m = answer(&text[..n], &mut out);
+            if let Err(error) = rt.stdout().write_all(&out[..m]) {
+                complain(&rt, b"recipe: standard output", error);
+            }
         }
-    };
-    let mut out = [0u8; PRINT_MAX];
-    let m = answer(&text[..n], &mut out);
-    if let Err(error) = rt.stdout().write_all(&out[..m]) {
-        let k = failure_line(&mut line, b"recipe: standard output", error);
-        let _ = rt.stderr().write_all(&line[..k]);
+        Err(ReadFailed { error, .. }) => complain(&rt, b"recipe: standard input", error),
     }
 }

@@ -4,7 +4,7 @@
 //   D0..D7 there | flags there | flags promised there
 //
 // `tools/recipe-vectors` makes vectors. Flags are X 16, N 8, Z 4, V 2, C 1.
-ghost use Rattle.std.specs.Prelude.{◌+◌, ◌<◌, ◌≤◌, length};
+ghost use Rattle.std.specs.Prelude.{◌+◌, ◌<◌, ◌≤◌};
 
 use alu::types::Flags;
 use step::registers::State;
@@ -13,122 +13,121 @@ use text::types::{NEWLINE, TAB};
 
 const FIELDS: usize = 41;
 
-// A place behind some of the lines, and what ought to stand there: data registers, flags and which of them count.
+// Eight digits, and the tab or the line end behind them.
+const FIELD: usize = 9;
+
+// A header's bytes.
+pub(crate) const LENGTH: usize = FIELDS * FIELD;
+
+// Flags as a packed byte: X alone, and all five.
+const ONLY_X: u8 = 0x10;
+
+const ALL: u8 = 0x1f;
+
+// What ought to stand at a place: data registers, flags and which of them count.
 #[derive(Clone, Copy)]
-pub(crate) struct Middle {
-    pub place: u32,
+pub(crate) struct Told {
     pub data: [u32; 8],
     pub flags: Flags,
     pub promised: Flags,
 }
 
-// The state that a recipe is run on, and what it ought to give: data registers, flags and which of them count, steps and clocks;
-// and the middle. The address registers ought to stay.
+impl Told {
+    // Only the promised flags are compared.
+    pub(crate) fn same_flags(&self, flags: Flags) -> bool {
+        (u8::from(flags) ^ u8::from(self.flags)) & u8::from(self.promised) == 0
+    }
+
+    // All five flags are told where all are promised, and none where only X is.
+    pub(crate) fn same_codes(&self, codes: Option<Flags>) -> bool {
+        let promised = u8::from(self.promised);
+        codes.map_or(
+            promised == ONLY_X,
+            |flags| promised == ALL && self.same_flags(flags),
+        )
+    }
+}
+
+// The state that a recipe is run on, and what it ought to give: steps, clocks and what stands at the end and at the middle, a place
+// behind some of the lines. The address registers ought to stay.
 #[derive(Clone, Copy)]
 pub(crate) struct Vector {
     pub before: State,
-    pub data: [u32; 8],
-    pub flags: Flags,
-    pub promised: Flags,
+    pub end: Told,
     pub steps: u32,
     pub clocks: u64,
-    pub middle: Middle,
+    pub middle: u32,
+    pub there: Told,
 }
 
-// The eight bytes from a place on as a number.
-fn eight(head: &[u8], at: usize) -> Option<u32>
-    requires { at + 8 ≤ length head.now }
-{
-    let end = at + 8;
-    hex_of(&head[at..end])
-}
+// Bytes that are no vector.
+#[derive(Clone, Copy)]
+pub(crate) struct Malformed;
 
-// Field k.
-fn field(head: &[u8; 369], k: usize) -> Option<u32>
-    requires { k < 41 }
-{
-    eight(head, k * 9)
-}
+// The numbers of a header's fields.
+#[derive(Clone, Copy)]
+pub(crate) struct Header([u32; FIELDS]);
 
-// Whether field k is one, with its tab or line end behind it.
-fn is_field(head: &[u8; 369], k: usize) -> bool
-    requires { k < 41 }
-{
-    let behind = head[k * 9 + 8];
-    let wanted = if k + 1 < FIELDS { TAB } else { NEWLINE };
-    field(head, k).is_some() & (behind == wanted)
-}
+impl TryFrom<&[u8; LENGTH]> for Header {
+    type Error = Malformed;
 
-pub(crate) fn is_header(head: &[u8; 369]) -> bool {
-    let mut k = 0;
-    while k < FIELDS {
-        if !is_field(head, k) {
-            return false;
+    fn try_from(head: &[u8; LENGTH]) -> Result<Header, Malformed> {
+        let mut numbers = [0; FIELDS];
+        for (k, number) in numbers.iter_mut().enumerate() {
+            let behind = if k + 1 < FIELDS { TAB } else { NEWLINE };
+            let at = k * FIELD;
+            if head[at + 8] != behind {
+                return Err(Malformed);
+            }
+            *number = hex_of(&head[at..at + 8]).ok_or(Malformed)?;
         }
-        k += 1;
-    }
-    true
-}
-
-// The number of a field; 0 of what is none, but a header has none such.
-fn number(head: &[u8; 369], k: usize) -> u32
-    requires { k < 41 }
-{
-    field(head, k).unwrap_or(0)
-}
-
-// Eight registers.
-fn row(head: &[u8; 369], k: usize) -> [u32; 8]
-    requires { k + 8 ≤ 41 }
-{
-    [
-        number(head, k),
-        number(head, k + 1),
-        number(head, k + 2),
-        number(head, k + 3),
-        number(head, k + 4),
-        number(head, k + 5),
-        number(head, k + 6),
-        number(head, k + 7),
-    ]
-}
-
-fn flags(head: &[u8; 369], k: usize) -> Flags
-    requires { k < 41 }
-{
-    let bits = number(head, k);
-    Flags {
-        x: bits / 16 % 2 == 1,
-        n: bits / 8 % 2 == 1,
-        z: bits / 4 % 2 == 1,
-        v: bits / 2 % 2 == 1,
-        c: bits % 2 == 1,
+        Ok(Header(numbers))
     }
 }
 
-pub(crate) fn text_length(head: &[u8; 369]) -> usize {
-    number(head, 0) as usize
-}
+impl Header {
+    // Eight registers.
+    fn row(&self, k: usize) -> [u32; 8]
+        requires { k + 8 ≤ 41 }
+    {
+        let mut row = [0; 8];
+        row.copy_from_slice(&self.0[k..k + 8]);
+        row
+    }
 
-pub(crate) fn read_header(head: &[u8; 369]) -> Vector {
-    let before = State {
-        d: row(head, 2),
-        a: row(head, 10),
-        flags: flags(head, 1),
-    };
-    let middle = Middle {
-        place: number(head, 30),
-        data: row(head, 31),
-        flags: flags(head, 39),
-        promised: flags(head, 40),
-    };
-    Vector {
-        before,
-        data: row(head, 18),
-        flags: flags(head, 26),
-        promised: flags(head, 27),
-        steps: number(head, 28),
-        clocks: number(head, 29) as u64,
-        middle,
+    fn flags(&self, k: usize) -> Flags
+        requires { k < 41 }
+    {
+        Flags::from((self.0[k] & 0xff) as u8)
+    }
+
+    // Registers, flags and those promised, behind one another.
+    fn told(&self, k: usize) -> Told
+        requires { k + 10 ≤ 41 }
+    {
+        Told {
+            data: self.row(k),
+            flags: self.flags(k + 8),
+            promised: self.flags(k + 9),
+        }
+    }
+
+    pub(crate) fn text_length(&self) -> usize {
+        self.0[0] as usize
+    }
+
+    pub(crate) fn vector(&self) -> Vector {
+        Vector {
+            before: State {
+                d: self.row(2),
+                a: self.row(10),
+                flags: self.flags(1),
+            },
+            end: self.told(18),
+            steps: self.0[28],
+            clocks: u64::from(self.0[29]),
+            middle: self.0[30],
+            there: self.told(31),
+        }
     }
 }

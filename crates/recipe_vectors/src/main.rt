@@ -7,149 +7,86 @@
 mod header;
 mod replay;
 
-ghost use Rattle.std.specs.Prelude.{◌≡◌, ◌≤◌, length};
-ghost use Rattle.io.specs.Counts.{IsPrefixLen};
-
-use header::{is_header, read_header, text_length};
+use header::{Header, LENGTH, Malformed, Vector};
+use input::read_text;
 use recipes::types::TEXT_MAX;
-use replay::{Replayed, Slip, is_slip, replay, without_run};
-use std::io;
+use replay::{Failure, Slip, replay};
 use std::io::Read;
+use std::{fmt, io};
 
-#[derive(Clone, Copy)]
+#[derive(Clone, Copy, Default)]
 struct Tally {
     recipes: u64,
     runs: u64,
     failed: u64,
 }
 
-// What came from standard input: its end, no vector, or a vector with a text of so many bytes.
-#[derive(Clone, Copy)]
-enum Came {
-    End,
-    Malformed,
-    Whole,
-}
-
-#[derive(Clone, Copy)]
-struct Input {
-    came: Came,
-    length: usize,
-}
-
-fn without_text(came: Came) -> Input
-    ensures { result.length ≡ 0 }
-{
-    Input { came, length: 0 }
-}
-
-// Reads n bytes, or as many as there are.
-fn read_text<R: Read>(from: &mut R, text: &mut [u8], n: usize) -> usize
-    requires { n ≤ length text.old }
-{
-    match input::read_text(from, &mut text[..n]) {
-        Ok(n) => n,
-        Err(failed) => failed.n,
+impl fmt::Display for Tally {
+    fn fmt<W: fmt::Write>(&self, f: &mut fmt::Formatter<W>) -> fmt::Result {
+        write!(
+            f,
+            "{} recipes, {} runs, {} failed",
+            self.recipes, self.runs, self.failed
+        )
     }
 }
 
-// Reads the next vector, its header and its text.
-fn next<R: Read>(from: &mut R, head: &mut [u8; 369], text: &mut [u8]) -> Input
-    ensures { IsPrefixLen result.length text.new }
-{
-    let got = read_text(from, head, 369);
-    if got == 0 {
-        return without_text(Came::End);
-    }
-    if (got < 369) | !is_header(head) {
-        return without_text(Came::Malformed);
-    }
-    let length = text_length(head);
-    if length > text.len() {
-        return without_text(Came::Malformed);
-    }
-    if read_text(from, text, length) < length {
-        return without_text(Came::Malformed);
-    }
-    Input {
-        came: Came::Whole,
-        length,
+impl Tally {
+    // One more vector; what failed is told.
+    fn count<R: Print>(&mut self, rt: &R, outcome: Result<(), Failure>) -> io::Result<()> {
+        self.recipes = self.recipes.wrapping_add(1);
+        let Err(Failure { slip, place }) = outcome else {
+            return Ok(());
+        };
+        self.failed = self.failed.wrapping_add(1);
+        println!(rt; "failed: recipe {}, place {place}: {slip}", self.recipes)
     }
 }
 
-fn words(slip: Slip) -> &'static str {
-    match slip {
-        Slip::Nothing => "",
-        Slip::Malformed => "no vector",
-        Slip::Reading => "the text is refused",
-        Slip::Translation => "the recipe is refused",
-        Slip::Count => "the number of steps",
-        Slip::Halt => "the halt",
-        Slip::Middle => "the middle",
-        Slip::End => "the end",
-        Slip::Clocks => "the clocks",
-        Slip::Data => "the data registers",
-        Slip::Address => "the address registers",
-        Slip::Flags => "the flags",
-        Slip::Recipe => "the recipe run as a whole",
+// Reads the next vector, with its text into `room`; none where the input has ended.
+fn next<'a, R: Read>(
+    from: &mut R,
+    room: &'a mut [u8],
+) -> Result<Option<(Vector, &'a [u8])>, Malformed> {
+    let mut head = [0u8; LENGTH];
+    match read_text(from, &mut head).unwrap_or_else(|failed| failed.n) {
+        0 => return Ok(None),
+        LENGTH => {}
+        _ => return Err(Malformed),
     }
-}
-
-fn report<R: Print>(rt: &R, recipe: u64, place: u64, slip: Slip) -> io::Result<()> {
-    let what = words(slip);
-    println!(rt; "failed: recipe {recipe}, place {place}: {what}")
-}
-
-// One more vector in the tally.
-fn counted<R: Print>(rt: &R, t: Tally, replayed: Replayed) -> io::Result<Tally> {
-    let recipes = t.recipes.wrapping_add(1);
-    let runs = t.runs.wrapping_add(replayed.runs);
-    let slip = replayed.slip;
-    let mut failed = t.failed;
-    if is_slip(slip) {
-        report(rt, recipes, replayed.place as u64, slip)?;
-        failed = failed.wrapping_add(1);
+    let header = Header::try_from(&head)?;
+    let length = header.text_length();
+    if length > room.len() {
+        return Err(Malformed);
     }
-    Ok(Tally {
-        recipes,
-        runs,
-        failed,
-    })
+    let text = &mut room[..length];
+    if !read_text(from, text).is_ok_and(|n| n == length) {
+        return Err(Malformed);
+    }
+    Ok(Some((header.vector(), text)))
 }
 
-// The tally of all vectors. A proved loop has to end: it counts down from more than any input has.
+// The tally of all vectors. A proved loop has to end: this one does after more than any input has.
 fn all_vectors<R: Print, I: Read>(rt: &R, from: &mut I) -> io::Result<Tally> {
-    let mut t = Tally {
-        recipes: 0,
-        runs: 0,
-        failed: 0,
-    };
-    let mut turns: u32 = 0xffff_ffff;
-    while turns > 0 {
-        let mut head = [0u8; 369];
-        let mut text = [0u8; TEXT_MAX];
-        let input = next(from, &mut head, &mut text);
-        let came = input.came;
-        match came {
-            Came::End => {
-                return Ok(t);
+    let mut tally = Tally::default();
+    for _ in 0..u32::MAX {
+        let mut room = [0u8; TEXT_MAX];
+        match next(from, &mut room) {
+            Ok(None) => break,
+            Ok(Some((vector, text))) => {
+                let outcome = replay(&vector, text, &mut tally.runs);
+                tally.count(rt, outcome)?;
             }
-            Came::Malformed => {
-                return counted(rt, t, without_run(Slip::Malformed));
+            Err(Malformed) => {
+                tally.count(rt, Err(Slip::Malformed.at(0)))?;
+                break;
             }
-            Came::Whole => {}
         }
-        let n = input.length;
-        t = counted(rt, t, replay(read_header(&head), &text[..n]))?;
-        turns -= 1;
     }
-    Ok(t)
+    Ok(tally)
 }
 
 fn main(rt: HostRuntime) -> io::Result<()> {
-    let t = all_vectors(&rt, &mut rt.stdin())?;
-    let recipes = t.recipes;
-    let runs = t.runs;
-    let failed = t.failed;
-    println!(rt; "{recipes} recipes, {runs} runs, {failed} failed")
+    let tally = all_vectors(&rt, &mut rt.stdin())?;
+    println!(rt; "{tally}")
 }
