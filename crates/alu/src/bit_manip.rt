@@ -53,6 +53,7 @@ fn only_long(size: Size, flags: Flags, answer: Answer) -> Answer
 }
 
 // BTST Dn,Dn and BTST #<data>,Dn: the value comes back as it was handed in.
+#[tactic(auto, unfolding(crate::specs::Bitops::bitop_of))]
 pub fn exec_btst(size: Size, number: u32, value: u32, flags: Flags) -> Answer
     ensures { result ≡ bitop_of BitOp.Btst size number value flags }
 {

@@ -94,6 +94,7 @@ fn subtract(size: Size, src: u32, dst: u32, x: bool) -> Sum
 }
 
 // The signed number in the size's bits, raised by half of 2 to their number so that it is not below 0.
+#[tactic(auto, unfolding(crate::specs::Bits::raised))]
 fn raised(size: Size, x: u32) -> u32
     ensures { result ≡ raised (bits_of size) x }
 {
@@ -288,6 +289,7 @@ pub fn exec_ext(size: Size, dst: u32, flags: Flags) -> Answer
 }
 
 // N and Z of the result; V and C are cleared, X is kept. (m68k has it in data_movement.rs.)
+#[tactic(auto, unfolding(crate::specs::ConditionCodes::logic_flags))]
 pub fn set_logic_flags(size: Size, res: u32, flags: Flags) -> Flags
     ensures { result ≡ logic_flags (bits_of size) res flags }
 {
@@ -296,6 +298,7 @@ pub fn set_logic_flags(size: Size, res: u32, flags: Flags) -> Flags
 
 // Whether the word in Dn is not below 0 and not above the bound. Below 8000 hex a word is its own signed number; a value
 // that is not above such a bound is one too.
+#[tactic(auto, using(crate::proofs::Checks::pass_low))]
 fn chk_passes(bound: u32, value: u32) -> bool
     ensures { result ≡ eqb (class_of (check_of 16 bound value)) 0 }
 {
@@ -305,6 +308,7 @@ fn chk_passes(bound: u32, value: u32) -> bool
 }
 
 // What CHK answers then.
+#[tactic(auto, using(crate::proofs::Checks::pass_sign))]
 fn chk_passed(value: u32, flags: Flags) -> Answer
     ensures { (bound : ℕ) → check_of 16 bound value ≡ Check.Pass → result ≡ (chk_of Size.Word bound value flags).answer }
 {

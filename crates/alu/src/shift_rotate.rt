@@ -202,6 +202,7 @@ pub fn exec_asl(size: Size, shift: u32, value: u32, flags: Flags) -> Answer
 }
 
 // ASR Dx,Dy and ASR #<data>,Dy
+#[tactic(auto, unfolding(crate::specs::Shifts::shift_of))]
 pub fn exec_asr(size: Size, shift: u32, value: u32, flags: Flags) -> Answer
     ensures { result ≡ shift_of ShiftOp.Asr size shift value flags }
 {
@@ -211,6 +212,7 @@ pub fn exec_asr(size: Size, shift: u32, value: u32, flags: Flags) -> Answer
 }
 
 // LSL Dx,Dy and LSL #<data>,Dy
+#[tactic(auto, unfolding(crate::specs::Shifts::shift_of))]
 pub fn exec_lsl(size: Size, shift: u32, value: u32, flags: Flags) -> Answer
     ensures { result ≡ shift_of ShiftOp.Lsl size shift value flags }
 {
@@ -220,6 +222,7 @@ pub fn exec_lsl(size: Size, shift: u32, value: u32, flags: Flags) -> Answer
 }
 
 // LSR Dx,Dy and LSR #<data>,Dy
+#[tactic(auto, unfolding(crate::specs::Shifts::shift_of))]
 pub fn exec_lsr(size: Size, shift: u32, value: u32, flags: Flags) -> Answer
     ensures { result ≡ shift_of ShiftOp.Lsr size shift value flags }
 {

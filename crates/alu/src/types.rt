@@ -152,6 +152,7 @@ impl Size {
     }
 
     // The highest bit that the size has.
+    #[tactic(auto, using(crate::proofs::Bitwise::top_weight))]
     pub fn top(self, x: u32) -> bool
         ensures { result ≡ top (bits_of self) x }
     {
