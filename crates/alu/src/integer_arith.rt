@@ -48,6 +48,7 @@ impl Sum {
 }
 
 // The flags of a sum or a difference: V is the top bit of `overflow`, X = C.
+#[tactic(auto, using(crate::proofs::Bitwise::top_weight))]
 fn sum_of(w: Width, res: u32, overflow: u32, c: bool) -> Sum
     ensures { (n : ℕ) → w ≡ width_of n → res < 2 ^ n → result ≡ summed n res (top n overflow) c }
 {
@@ -269,6 +270,7 @@ pub fn exec_not(size: Size, dst: u32, flags: Flags) -> Answer
 }
 
 // What EXT makes of the register: byte to word, the upper 16 bits kept; word to long.
+#[tactic(auto, using(crate::proofs::Extension::extended_lt))]
 fn ext_result(size: Size, dst: u32) -> u32
     ensures { result ≡ ext_result size dst }
 {
@@ -370,6 +372,7 @@ fn only_word(size: Size, flags: Flags, checked: Checked) -> Checked
 }
 
 // What CHK of words answers, whatever its class; asked where it doesn't pass. N is the value's sign.
+#[tactic(auto, using(crate::proofs::Integers::signed_sign))]
 fn chk_trap(bound: u32, value: u32, flags: Flags) -> Checked
     ensures { result ≡ chk_of Size.Word bound value flags }
 {
