@@ -1,5 +1,5 @@
 // The integer arithmetic of registers, on values and flags: integer_arith.rs of the crate m68k, in its
-// order. In a contract `top`, `raised` and `refigured` are the definitions of specs/, not the functions.
+// order. In a contract `raised` and `refigured` are the definitions of specs/, not the functions.
 //
 // Bits of an operand above its size do not count, but: an address register is used whole, and so is the
 // source of ADDQ and SUBQ on one; EXT word keeps the upper 16 bits; CMP, CMPA and CHK hand the

@@ -1,5 +1,5 @@
 // ASL, ASR, LSL, LSR, ROL, ROR, ROXL and ROXR of a data register, on values and flags: shift_rotate.rs
-// of the crate m68k, in its order. In a contract `shifted` is the definition of specs/, not the function here.
+// of the crate m68k, in its order. In a contract `shifted` and `rotated` are the definitions of specs/, not the functions here.
 //
 // `shift` is document 01's count. The code puts X beside the operand and moves bits + 1 places at once in 64 bits. m68k's cases
 // for counts at and above the size fall away: what stands in X's place at the end is the last bit out.
