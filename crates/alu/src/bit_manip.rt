@@ -31,6 +31,7 @@ fn upper_figure(k: u32) -> u32
 }
 
 // Z tells whether the bit of weight w was clear; no other flag is touched.
+#[tactic(auto, using(crate::proofs::Bitwise::clear_weight))]
 fn bit_answer(w: u32, value: u32, res: u32, flags: Flags, clocks: u32) -> Answer
     ensures { (k : ℕ) → w ≡ 2 ^ k → result ≡ accepted res (bit_flags k value flags) clocks }
 {
@@ -53,6 +54,7 @@ fn only_long(size: Size, flags: Flags, answer: Answer) -> Answer
 }
 
 // BTST Dn,Dn and BTST #<data>,Dn: the value comes back as it was handed in.
+#[tactic(auto, unfolding(crate::specs::Bitops::bitop_of))]
 pub fn exec_btst(size: Size, number: u32, value: u32, flags: Flags) -> Answer
     ensures { result ≡ bitop_of BitOp.Btst size number value flags }
 {
@@ -63,6 +65,7 @@ pub fn exec_btst(size: Size, number: u32, value: u32, flags: Flags) -> Answer
 }
 
 // BSET: the bit is set.
+#[tactic(auto, using(crate::proofs::Bitops::set_bit), unfolding(crate::specs::Bitops::bitop_of))]
 pub fn exec_bset(size: Size, number: u32, value: u32, flags: Flags) -> Answer
     ensures { result ≡ bitop_of BitOp.Bset size number value flags }
 {
@@ -85,6 +88,7 @@ pub fn exec_bclr(size: Size, number: u32, value: u32, flags: Flags) -> Answer
 }
 
 // BCHG: the bit is turned over.
+#[tactic(auto, using(crate::proofs::Bitops::change_bit), unfolding(crate::specs::Bitops::bitop_of))]
 pub fn exec_bchg(size: Size, number: u32, value: u32, flags: Flags) -> Answer
     ensures { result ≡ bitop_of BitOp.Bchg size number value flags }
 {
