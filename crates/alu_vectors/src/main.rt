@@ -49,10 +49,9 @@ fn all_lines<R: Print, F: Read>(rt: &R, path: &str, file: &mut F) -> io::Result<
     let mut turns: u32 = 1_000_000;
     while turns > 0 {
         let mut text = [0u8; 43];
-        let n = read_text(file, &mut text).n;
-        if n < 43 {
+        let Ok(43) = read_text(file, &mut text) else {
             break;
-        }
+        };
         t = counted(rt, t, path, &text)?;
         turns -= 1;
     }

@@ -1,6 +1,6 @@
 // A rack of boxes: a row for each, which is the run on it alone. A file has a line for each box, of words as the program itself
 // takes them, with blanks or tabs between; what a line does not say, the program's own words say for every box.
-ghost use Rattle.std.specs.Prelude.{◌≡◌, ◌≤◌, length};
+ghost use Rattle.std.specs.Prelude.{◌≡◌, ◌≤◌, length, MatchResult, IsErrAnd};
 ghost use Rattle.io.specs.Counts.{IsPrefixLen};
 
 use crate::course::whole_run;
@@ -12,7 +12,7 @@ use crate::pen::{
 };
 use crate::table::{numbering, sizes};
 use crate::words::{Asked, OF_A_BOX, Taking, WORD_ROOM, is_taken, report, tell, unsaid, with_text};
-use input::{Input, LINE_MAX, failure_line, read_text};
+use input::{LINE_MAX, ReadFailed, failure_line, read_text};
 use recipes::types::{Listing, Recipe};
 use std::env::Env;
 use std::fs::File;
@@ -326,18 +326,15 @@ fn put_rack<W: Write>(
     put_table(out, file, count, asked, recipe, made)
 }
 
-fn unread(error: Error) -> Input
-    ensures { result.n ≡ 0 }
+fn unread(error: Error) -> Result<usize, ReadFailed>
+    ensures { IsErrAnd result (λ failed. failed.n ≡ 0) }
 {
-    Input {
-        n: 0,
-        failed: Some(error),
-    }
+    Err(ReadFailed { n: 0, error })
 }
 
 // The bytes of a file, as far as there is room. A name that is no text can't be opened.
-fn open_and_read<R: Files>(files: &R, name: &[u8], file: &mut [u8]) -> Input
-    ensures { IsPrefixLen result.n file.new }
+fn open_and_read<R: Files>(files: &R, name: &[u8], file: &mut [u8]) -> Result<usize, ReadFailed>
+    ensures { MatchResult result (λ n. IsPrefixLen n file.new) (λ failed. IsPrefixLen failed.n file.new) }
 {
     let Ok(path) = str::from_utf8(name) else {
         return unread(Error::from(ErrorKind::InvalidFilename));
@@ -368,12 +365,16 @@ fn report_long<W: Write>(to: &mut W, name: &[u8]) {
 fn read_file<R: Files, W: Write>(files: &R, to: &mut W, name: &[u8], file: &mut [u8]) -> Lines
     ensures { IsPrefixLen result.n file.new }
 {
-    let input = open_and_read(files, name, file);
-    let n = input.n;
-    if let Some(error) = input.failed {
-        report_failed(to, name, error);
-        return Lines { n, ok: false };
-    }
+    let n = match open_and_read(files, name, file) {
+        Ok(n) => n,
+        Err(failed) => {
+            report_failed(to, name, failed.error);
+            return Lines {
+                n: failed.n,
+                ok: false,
+            };
+        }
+    };
     if FILE_MAX < n {
         report_long(to, name);
     }

@@ -83,13 +83,14 @@ fn main(rt: HostRuntime) {
     }
     let mut line = [0u8; LINE_MAX];
     let mut text = [0u8; TEXT_MAX];
-    let input = read_text(&mut rt.stdin(), &mut text);
-    if let Some(error) = input.failed {
-        let k = failure_line(&mut line, b"bench: standard input", error);
-        let _ = told.write_all(&line[..k]);
-        return;
-    }
-    let n = input.n;
+    let n = match read_text(&mut rt.stdin(), &mut text) {
+        Ok(n) => n,
+        Err(failed) => {
+            let k = failure_line(&mut line, b"bench: standard input", failed.error);
+            let _ = told.write_all(&line[..k]);
+            return;
+        }
+    };
     let mut out = [0u8; ROOM];
     let m = answer(&rt, &mut told, &mut out, words, &text[..n]);
     let m = within(m, &out);

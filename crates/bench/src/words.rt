@@ -7,7 +7,7 @@ use alu::types::Flags;
 use std::env::{Env, FillError};
 use std::io::Write;
 use step::registers::State;
-use text::parts::{first, same};
+use text::parts::first;
 
 // The things that a word gives have numbers: those of a box first, which are the registers, the flags and `from`; then `steps`,
 // `rows` and `boxes`, which the program's own words alone give; and one for a word that is not understood. (In contracts
@@ -162,10 +162,10 @@ fn flag_word(name: u8, value: &[u8]) -> Word {
     if !is_flag(name) {
         return Word::Unknown;
     }
-    if same(value, b"0") {
+    if value == b"0".as_slice() {
         return Word::Flag(name, false);
     }
-    if same(value, b"1") {
+    if value == b"1".as_slice() {
         return Word::Flag(name, true);
     }
     Word::Unknown
@@ -189,7 +189,7 @@ fn register_word(kind: u8, r: u8, value: &[u8]) -> Word {
 }
 
 fn read_word(word: &[u8]) -> Word {
-    if same(word, b"rows") {
+    if word == b"rows".as_slice() {
         return Word::Rows;
     }
     let mark = first(word, b'=');
@@ -198,13 +198,13 @@ fn read_word(word: &[u8]) -> Word {
     }
     let name = &word[..mark];
     let value = &word[mark + 1..];
-    if same(name, b"from") {
+    if name == b"from".as_slice() {
         return from_word(value);
     }
-    if same(name, b"steps") {
+    if name == b"steps".as_slice() {
         return steps_word(value);
     }
-    if same(name, b"boxes") {
+    if name == b"boxes".as_slice() {
         return boxes_word(value);
     }
     if name.len() == 1 {

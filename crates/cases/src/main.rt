@@ -116,7 +116,10 @@ fn read_file<R: Files>(files: &R, path: &str, file: &mut [u8]) -> usize
     ensures { IsPrefixLen result file.new }
 {
     match File::open(files, path) {
-        Ok(mut opened) => read_text(&mut opened, file).n,
+        Ok(mut opened) => match read_text(&mut opened, file) {
+            Ok(n) => n,
+            Err(failed) => failed.n,
+        },
         Err(_) => 0,
     }
 }

@@ -22,13 +22,14 @@ fn answer(text: &[u8], out: &mut [u8; PRINT_MAX]) -> usize
 fn main(rt: HostRuntime) {
     let mut line = [0u8; LINE_MAX];
     let mut text = [0u8; TEXT_MAX];
-    let input = read_text(&mut rt.stdin(), &mut text);
-    if let Some(error) = input.failed {
-        let k = failure_line(&mut line, b"recipe: standard input", error);
-        let _ = rt.stderr().write_all(&line[..k]);
-        return;
-    }
-    let n = input.n;
+    let n = match read_text(&mut rt.stdin(), &mut text) {
+        Ok(n) => n,
+        Err(failed) => {
+            let k = failure_line(&mut line, b"recipe: standard input", failed.error);
+            let _ = rt.stderr().write_all(&line[..k]);
+            return;
+        }
+    };
     let mut out = [0u8; PRINT_MAX];
     let m = answer(&text[..n], &mut out);
     if let Err(error) = rt.stdout().write_all(&out[..m]) {

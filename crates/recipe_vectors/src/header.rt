@@ -9,7 +9,7 @@ ghost use Rattle.std.specs.Prelude.{◌+◌, ◌<◌, ◌≤◌, length};
 use alu::types::Flags;
 use step::registers::State;
 use text::numbers::hex_of;
-use text::types::{Hex, NEWLINE, TAB};
+use text::types::{NEWLINE, TAB};
 
 const FIELDS: usize = 41;
 
@@ -36,7 +36,7 @@ pub(crate) struct Vector {
 }
 
 // The eight bytes from a place on as a number.
-fn eight(head: &[u8], at: usize) -> Hex
+fn eight(head: &[u8], at: usize) -> Option<u32>
     requires { at + 8 ≤ length head.now }
 {
     let end = at + 8;
@@ -44,7 +44,7 @@ fn eight(head: &[u8], at: usize) -> Hex
 }
 
 // Field k.
-fn field(head: &[u8; 369], k: usize) -> Hex
+fn field(head: &[u8; 369], k: usize) -> Option<u32>
     requires { k < 41 }
 {
     eight(head, k * 9)
@@ -56,10 +56,7 @@ fn is_field(head: &[u8; 369], k: usize) -> bool
 {
     let behind = head[k * 9 + 8];
     let wanted = if k + 1 < FIELDS { TAB } else { NEWLINE };
-    match field(head, k) {
-        Hex::Is(_) => behind == wanted,
-        Hex::Bad => false,
-    }
+    field(head, k).is_some() & (behind == wanted)
 }
 
 pub(crate) fn is_header(head: &[u8; 369]) -> bool {
@@ -77,10 +74,7 @@ pub(crate) fn is_header(head: &[u8; 369]) -> bool {
 fn number(head: &[u8; 369], k: usize) -> u32
     requires { k < 41 }
 {
-    match field(head, k) {
-        Hex::Is(value) => value,
-        Hex::Bad => 0,
-    }
+    field(head, k).unwrap_or(0)
 }
 
 // Eight registers.

@@ -47,14 +47,17 @@ fn without_text(came: Came) -> Input
 fn read_text<R: Read>(from: &mut R, text: &mut [u8], n: usize) -> usize
     requires { n ≤ length text.old }
 {
-    input::read_text(from, &mut text[..n]).n
+    match input::read_text(from, &mut text[..n]) {
+        Ok(n) => n,
+        Err(failed) => failed.n,
+    }
 }
 
 // Reads the next vector, its header and its text.
 fn next<R: Read>(from: &mut R, head: &mut [u8; 369], text: &mut [u8]) -> Input
     ensures { IsPrefixLen result.length text.new }
 {
-    let got = input::read_text(from, head).n;
+    let got = read_text(from, head, 369);
     if got == 0 {
         return without_text(Came::End);
     }

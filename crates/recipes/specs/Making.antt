@@ -14,7 +14,6 @@ use Rattle.recipes.specs.declared.lines.Act.TheVariants.{One}
 use Rattle.recipes.specs.declared.lines.Way.{Way}
 use Rattle.recipes.specs.declared.translator.Job.{Job}
 use Rattle.recipes.specs.declared.printer.Operand.{Operand}
-use Rattle.recipes.specs.declared.printer.Operand.TheVariants.{Numbered, Absent}
 use Rattle.text.specs.Text.{ascii, decimal_of}
 use Rattle.recipes.specs.Recipe.{lines_max, way_of, target, recipe_lines, Names, Accepted}
 use Rattle.recipes.specs.Listing.{step_of, steps_at, steps_of, lines_pass, tested}
@@ -22,9 +21,12 @@ use Rattle.recipes.specs.Listing.{step_of, steps_at, steps_of, lines_pass, teste
 -- ---- printing
 
 -- an operand's field: a mark and a number, or none
-abbrev pub operand_text : Operand → List ℕ
-operand_text (Numbered mark n) = mark ∷ decimal_of n
-operand_text Absent = ascii "-"
+abbrev pub operand_bytes : Operand → List ℕ
+operand_bytes o = o.0 ∷ decimal_of o.1
+
+abbrev pub operand_text : Option Operand → List ℕ
+operand_text (Some o) = operand_bytes o
+operand_text None = ascii "-"
 
 -- ---- one step of a line
 

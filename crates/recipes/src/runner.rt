@@ -54,7 +54,7 @@ pub fn print_recipe(recipe: Recipe, out: &mut [u8]) -> usize
     ensures { written out.new result ≡ writing out.old 0 (printed_of recipe) }
 {
     match translate_array(recipe) {
-        Ok(made) => print(recipe.width, made.steps, made.count, out),
+        Ok(made) => print(recipe.width, made.steps(), out),
         Err(refused) => print_refusal(refused, out),
     }
 }

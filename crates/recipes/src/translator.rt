@@ -5,6 +5,7 @@ ghost use Rattle.std.specs.Prelude.{◌≡◌, ◌/◌, ◌%◌, ◌*◌, ◌<�
 ghost use Rattle.recipes.specs.Recipe.{lines_max};
 ghost use Rattle.step.specs.Lent.{over};
 ghost use Rattle.step.specs.Lines.{with_line};
+ghost use Rattle.step.specs.Run.{array_slots};
 ghost use Rattle.recipes.specs.Listing.{long, form_of, step_of, blank, blanks, line_steps, numbered_of, array_of, at_rest, figure_of, clocks_of};
 ghost use Rattle.recipes.specs.Making.{act_at, offset_of, steps_by, job_of, job_step, StepOfJob, judge_of, judge_lines, Slotted, Layable};
 
@@ -211,18 +212,9 @@ fn figure(step: Step) -> u64
     performed.clocks as u64
 }
 
-pub(crate) fn clocks(steps: [Step; SLOTS], count: usize) -> u64
-    ensures { result ≡ clocks_of (take count steps) }
+pub(crate) fn clocks(steps: &[Step]) -> u64
+    requires { length steps.now ≤ array_slots }
+    ensures { result ≡ clocks_of steps.now }
 {
-    let mut sum: u64 = 0;
-    let mut k: usize = 0;
-    while k < SLOTS {
-        if count <= k {
-            return sum;
-        }
-        let step = steps[k];
-        sum += figure(step);
-        k += 1;
-    }
-    sum
+    steps.iter().map(|step| figure(*step)).sum()
 }
