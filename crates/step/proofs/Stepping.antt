@@ -28,7 +28,7 @@ use Rattle.step.specs.declared.runs.End.TheVariants as End
 use Rattle.step.specs.declared.runs.Left.{Left}
 use Rattle.step.specs.declared.runs.Ran.{Ran}
 use Rattle.step.specs.Registers.{data_of, merged_of}
-use Rattle.step.specs.Perform.{Ruling, Sound, refusal_of, there, count_there, count_within, not_byte, to_data, to_address, outcome_of, checked_of, timed, judged, perform_of}
+use Rattle.step.specs.Perform.{Ruling, Sound, refusal_of, count_there, count_within, not_byte, to_data, to_address, outcome_of, checked_of, timed, judged, perform_of}
 use Rattle.step.specs.Run.{ends, followed, run_of}
 use Rattle.step.specs.Lent.{held, ran_in}
 use Rattle.step.specs.Course.{came_out, leaving, said_of, refused_of, count_fault, outcome_from}

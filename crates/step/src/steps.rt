@@ -227,7 +227,10 @@ fn count_fault(c: Count) -> Came
 }
 
 // A shift's count or a bit's number, if it may be: a small number in range, or what a register that is there holds, mod `MODULUS`.
-fn counted<const LEAST: u8, const MOST: u8, const MODULUS: u32>(d: &[u32; 8], c: Count) -> Option<u32>
+fn counted<const LEAST: u8, const MOST: u8, const MODULUS: u32>(
+    d: &[u32; 8],
+    c: Count,
+) -> Option<u32>
     requires { 0 < MODULUS }
     ensures { (a : List ℕ) (f : Flags) → result ≡ counted_of LEAST MOST MODULUS (held d.now a f) c }
 {

@@ -1,11 +1,11 @@
 -- `racks::rack` meets its contract: each turn writes one slot more of both rows, and a slot that is not yet written is as it was.
 -- Assumes nothing.
-use Rattle.std.proofs.Common.{◌≡◌, ℕ, Ok, ◌<◌, ◌≤◌, List, length, get_or, take, set, sym, ap, ◌∙◌, ap₂, arith}
+use Rattle.std.proofs.Common.{◌≡◌, Ok, ◌<◌, ◌≤◌, List, length, get_or, take, set, sym, ap, ◌∙◌, ap₂, arith}
 use Rattle.step.specs.declared.registers.State.{State}
 use Rattle.step.specs.declared.racks.Boxed.{Boxed}
 use Rattle.step.specs.Perform.{perform_of}
 use Rattle.step.specs.Run.{run_of}
-use Rattle.step.specs.Rack.{Plan, plan_of, state_of, boxed_of, left, runs_of, planned}
+use Rattle.step.specs.Rack.{plan_of, state_of, boxed_of, left, runs_of, planned}
 use Rattle.step.proofs.Boxes.{within_plan, planned_none, first_many, first_at_lem, row_still, row_next, row_last}
 use Rattle.step.proofs.racks.rack.Goals as goal
 

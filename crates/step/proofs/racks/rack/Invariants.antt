@@ -1,5 +1,5 @@
 -- The loop of `rack`: the first `i` slots of both rows are of the single runs, and all else is as it was (`row_at`). Assumes nothing.
-use Rattle.std.proofs.Common.{◌≡◌, ◌-◌, ◌≤◌, take}
+use Rattle.std.proofs.Common.{◌≡◌, take}
 use Rattle.step.specs.Perform.{perform_of}
 use Rattle.step.specs.Rack.{state_of, boxed_of, runs_of}
 use Rattle.step.proofs.Boxes.{row_at}

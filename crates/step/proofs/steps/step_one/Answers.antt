@@ -1,5 +1,5 @@
 -- `steps::step_one` meets its contract: EXT's answer is written whole, and that is a write at its size. Assumes nothing.
-use Rattle.std.proofs.Common.{◌≡◌, true, sym, refl, ◌∙◌, lt-ltb, rules}
+use Rattle.std.proofs.Common.{◌≡◌, true, refl, lt-ltb, rules}
 use Rattle.step.specs.Perform.{not_byte}
 use Rattle.step.specs.Lent.{held}
 use Rattle.step.proofs.Stepping.{sound, ext_step}
