@@ -38,6 +38,7 @@ pub(crate) fn write(registers: &mut [u32], r: u8, value: u32)
 }
 
 // `old` with its low bits replaced by those of `value`, as many as the size has.
+#[tactic(auto, using(crate::proofs::Sound::merged_mask))]
 pub(crate) fn merged(size: Size, old: u32, value: u32) -> u32
     ensures { result ≡ merged_of size old value }
 {
