@@ -5,7 +5,7 @@
 // for counts at and above the size fall away: what stands in X's place at the end is the last bit out.
 ghost use Rattle.std.specs.Prelude.{◌≡◌, ◌+◌, ◌-◌, ◌%◌, ◌<◌, ◌≤◌, ◌^◌};
 ghost use Rattle.alu.specs.Bits.{bits_of, low};
-ghost use Rattle.alu.specs.Shifts.{through, rotated, start, moved, changed, shift_answer, shifted, shift_of};
+ghost use Rattle.alu.specs.Shifts.{rotated, start, moved, changed, shift_answer, shifted, shift_of};
 ghost use Rattle.alu.specs.Places.{above, below, from_above, from_below, turned_left};
 
 use super::types::{Answer, Flags, Size, Verdict, result_flags};
@@ -256,22 +256,16 @@ pub fn exec_ror(size: Size, shift: u32, value: u32, flags: Flags) -> Answer
     rotated(size, k, Held { value, out }, flags.x)
 }
 
-// Of ROXL and ROXR C and X are the one bit, after whole rounds too (9 on a byte). The figure is of the whole count.
-fn through(size: Size, k: u32, h: Held) -> Answer
-    requires { k < 64 }
-    ensures { result ≡ through size k h }
-{
-    shift_answer(size, k, h.value, h.out, false, h.out)
-}
-
-// ROXL Dx,Dy and ROXL #<data>,Dy
+// ROXL Dx,Dy and ROXL #<data>,Dy. C and X are the one bit, after whole rounds too (9 on a byte). The
+// figure is of the whole count. (One function for ROXL and ROXR, which takes what `roxl` or `roxr` gives, takes 18 instructions more.)
 pub fn exec_roxl(size: Size, shift: u32, value: u32, flags: Flags) -> Answer
     ensures { result ≡ shift_of ShiftOp.Roxl size shift value flags }
 {
     if 63 < shift {
         return Answer::refused(Verdict::BadCount, flags);
     }
-    through(size, shift, roxl(size, shift, value, flags.x))
+    let left = roxl(size, shift, value, flags.x);
+    shift_answer(size, shift, left.value, left.out, false, left.out)
 }
 
 // ROXR Dx,Dy and ROXR #<data>,Dy
@@ -281,5 +275,6 @@ pub fn exec_roxr(size: Size, shift: u32, value: u32, flags: Flags) -> Answer
     if 63 < shift {
         return Answer::refused(Verdict::BadCount, flags);
     }
-    through(size, shift, roxr(size, shift, value, flags.x))
+    let right = roxr(size, shift, value, flags.x);
+    shift_answer(size, shift, right.value, right.out, false, right.out)
 }

@@ -10,4 +10,4 @@ returns-then-shift-gt63 c = rw (lt-ltb _ _ c.if-shift-gt63.true) c.refused.ensur
 
 pub returns : goal.returns
 unfolding shift_of
-returns c = rw (le-ltb _ _ c.if-shift-gt63.false, ← c.roxr.ensures) c.through.ensures
+returns c = rw (le-ltb _ _ c.if-shift-gt63.false, ← c.roxr-right.ensures) c.shift_answer.ensures
