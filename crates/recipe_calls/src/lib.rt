@@ -198,8 +198,7 @@ pub fn rack_run(
 pub fn listing_print(width: u8, listing: &[u64], out: &mut [u8]) -> usize
     ensures { written out.new result ≡ writing out.old 0 (listing_text width (first_of listing.now)) }
 {
-    let made = listing_of(listing);
-    print(width, made.steps, made.count, out)
+    print(width, listing_of(listing).steps(), out)
 }
 
 // What the program `recipe` prints for the text that it read.
