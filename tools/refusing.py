@@ -38,11 +38,30 @@ def read(path):
     return path.read_text(encoding="utf-8", errors="surrogateescape")
 
 
+def impls(text):
+    """The impl blocks of a file: where each begins and ends, and how its functions are told from those of others: as the folders of their proofs are named,
+    `Recipe` of methods, `U32FromVerdict` of a conversion, else the type and the trait."""
+    for block in re.finditer(r"^impl\b(?:<[^{}]*?>)?\s+([^{]*?)\s*\{$", text, re.M):
+        trait, _, target = block[1].rpartition(" for ")
+        name, source = re.fullmatch(r"(?:\w+::)*(\w*)(?:<(.*)>)?", trait).groups()
+        target, source = (re.sub(r"\W.*", "", (it or "").lstrip("&")) for it in (target, source))
+        own = target[:1].upper() + target[1:] + name + source[:1].upper() + source[1:]
+        yield block.start(), text.find("\n}", block.start()), own
+
+
+def qualified(text, head):
+    """The name of a function, with that of its impl block where it stands in one."""
+    return ".".join([own for start, end, own in impls(text) if start <= head.start() <= end] + [head[2]])
+
+
 def function_at(text, at):
-    """The name of the function whose text is at that place, or nothing."""
+    """The name of the function whose text is at that place, or nothing; of a place between a block's functions, that of its first."""
     heads = [head for head in HEAD.finditer(text) if head.start() <= at]
     if heads and 0 <= at <= text.find(f"\n{heads[-1][1]}}}", heads[-1].start()):
-        return heads[-1][2]
+        return qualified(text, heads[-1])
+    for start, end, own in impls(text):
+        if start <= at <= end and (head := HEAD.search(text, start, end)):
+            return f"{own}.{head[2]}"
     return None
 
 
@@ -69,8 +88,8 @@ def concerns(aim, crate, told):
     if aim[0] == "law":
         return told.path == aim[1] and told.text.startswith(f"error: `{aim[2]}`:")
     if told.path.startswith("proofs/"):
-        place = pathlib.PurePath(told.path).parent.parts[1:]  # a method has its type's folder between
-        return place[-1:] == aim[-1:] and place[: len(aim) - 2] == aim[1:-1]
+        place = pathlib.PurePath(told.path).parent.parts[1:]  # a method has its block's folder between
+        return place == (*aim[1:-1], *aim[-1].split("."))
     if not told.path.startswith("src/") or module_of(told.path) != aim[1:-1] or not NOT_PROVED.match(told.text):
         return False
     text = read(crate / told.path)

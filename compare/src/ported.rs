@@ -49,21 +49,13 @@ struct Told {
     clocks: u32,
 }
 
-/// step::racks::Fit
+/// A Result of how many boxes are run, and of step::racks::TooManyBoxes
 #[repr(u8)]
 #[derive(Clone, Copy)]
 #[allow(dead_code)] // made by the port
-enum Fit {
-    Fits,
-    TooMany,
-}
-
-/// step::racks::Racked
-#[repr(C)]
-#[derive(Clone, Copy)]
-struct Racked {
-    fit: Fit,
-    boxes: usize,
+enum Racked {
+    Boxes(usize),
+    TooManyBoxes,
 }
 
 unsafe extern "C" {
@@ -166,11 +158,10 @@ pub fn rack(
             answers.len(),
         )
     };
-    let number = match racked.fit {
-        Fit::Fits => 0,
-        Fit::TooMany => 15,
-    };
-    (number, racked.boxes)
+    match racked {
+        Racked::Boxes(boxes) => (0, boxes),
+        Racked::TooManyBoxes => (15, 0),
+    }
 }
 
 /// The listing once more, written by `store` slot by slot.

@@ -13,7 +13,7 @@ use compare::recipes::{LINES_MAX, Line, PRINT_MAX, Recipe, Refused, SLOTS, STEPS
 use compare::recipes::{answer, read, refused_alike, taken, translate};
 use compare::refusals;
 use compare::slips::{self, Slip};
-use compare::steps::{Form, One, Size, Step, TOLD};
+use compare::steps::{Form, Size, Step, TOLD};
 use compare::texts::{self, KINDS, LONGEST};
 use std::collections::BTreeMap;
 use std::fmt::Debug;
@@ -210,9 +210,6 @@ fn wanted<T: Copy>(made: Result<Vec<Step>, Refused>, before: &[T], laid: impl Fn
     Laid { told: refused.told(count), row }
 }
 
-/// A listing by value has CLR.L D255 in its other slots, which document 01 leaves open, by document 02 of line 0.
-const BLANK: Step = Step { size: Size::Long, form: Form::One(One::Clr, 255), line: 0 };
-
 /// A recipe translated into a row, and by value; what the reading tells of the first.
 fn compare_recipe(recipe: &Recipe, before: &[Step], tally: &mut Tally) -> Told {
     let mut row = before.to_vec();
@@ -221,7 +218,7 @@ fn compare_recipe(recipe: &Recipe, before: &[Step], tally: &mut Tally) -> Told {
     let (lent, want_lent) = (Laid { told, row }, wanted(made(before.len()), before, Step::clone));
     let (told, array) = ported::translate_array(recipe);
     let row = array.to_vec();
-    let (by_value, want_by_value) = (Laid { told, row }, wanted(made(SLOTS), &[BLANK; SLOTS], Step::clone));
+    let (by_value, want_by_value) = (Laid { told, row }, wanted(made(SLOTS), &[ported::BLANK; SLOTS], Step::clone));
     tally.count(lent == want_lent && by_value == want_by_value, || {
         format!(
             "{recipe:?}\n  {} slots: {}\n  reading    {:?}\n  by value   {}\n  reading    {:?}",

@@ -8,18 +8,17 @@
 use mathlib.Core.Path.{◌≡◌, sym, ◌∙◌}
 use mathlib.Core.List.{List, [], ◌∷◌}
 use contract.Lifetimes.{Lfts}
-use Rattle.alu.proofs.types.number.Reads as number
-use Rattle.alu.proofs.types.class.Reads as class
-use Rattle.alu.proofs.types.width_of.Reads as width_of_lem
-use Rattle.alu.proofs.types.masked.Reads as masked
-use Rattle.alu.proofs.types.top.Reads as top
-use Rattle.alu.proofs.types.digit.Reads as digit
+use Rattle.alu.proofs.types.U32FromVerdict.from.Reads as u32-from-verdict
+use Rattle.alu.proofs.types.U32FromCheck.from.Reads as u32-from-check
+use Rattle.alu.proofs.types.Size.width.Reads as width
+use Rattle.alu.proofs.types.Size.masked.Reads as masked
+use Rattle.alu.proofs.types.Size.top.Reads as top
 use Rattle.alu.proofs.types.result_flags.Reads as result-flags
-use Rattle.alu.proofs.types.flags_of.Reads as flags_of
-use Rattle.alu.proofs.types.ccr.Reads as ccr
-use Rattle.alu.proofs.types.accepted.Reads as accepted
-use Rattle.alu.proofs.types.refused.Reads as refused
-use Rattle.alu.proofs.types.figure.Reads as figure
+use Rattle.alu.proofs.types.FlagsFromU8.from.Reads as flags-from-u8
+use Rattle.alu.proofs.types.U8FromFlags.from.Reads as u8-from-flags
+use Rattle.alu.proofs.types.Answer.accepted.Reads as accepted
+use Rattle.alu.proofs.types.Answer.refused.Reads as refused
+use Rattle.alu.proofs.types.Size.figure.Reads as figure
 use Rattle.alu.proofs.integer_arith.exec_add.Reads as exec-add
 use Rattle.alu.proofs.integer_arith.exec_adda.Reads as exec-adda
 use Rattle.alu.proofs.integer_arith.exec_addq.Reads as exec-addq
@@ -51,7 +50,7 @@ use Rattle.alu.proofs.bit_manip.exec_btst.Reads as exec-btst
 use Rattle.alu.proofs.bit_manip.exec_bset.Reads as exec-bset
 use Rattle.alu.proofs.bit_manip.exec_bclr.Reads as exec-bclr
 use Rattle.alu.proofs.bit_manip.exec_bchg.Reads as exec-bchg
-use Rattle.alu.proofs.conditions.number.Reads as condition-number
+use Rattle.alu.proofs.conditions.U8FromCondition.from.Reads as u8-from-condition
 use Rattle.alu.proofs.conditions.condition_at.Reads as condition-at
 use Rattle.alu.proofs.conditions.holds.Reads as condition-holds
 
@@ -69,15 +68,14 @@ pub data Fixed : Type 1 where
 
 pub determined : List Fixed
 determined =
-    fixed number.Learnt (one_equation _) ∷
-    fixed class.Learnt (one_equation _) ∷
-    fixed width_of_lem.Learnt (one_equation _) ∷
+    fixed u32-from-verdict.Learnt (one_equation _) ∷
+    fixed u32-from-check.Learnt (one_equation _) ∷
+    fixed width.Learnt (one_equation _) ∷
     fixed masked.Learnt (one_equation _) ∷
     fixed top.Learnt (one_equation _) ∷
-    fixed digit.Learnt (one_equation _) ∷
     fixed result-flags.Learnt (one_equation _) ∷
-    fixed flags_of.Learnt (one_equation _) ∷
-    fixed ccr.Learnt (one_equation _) ∷
+    fixed flags-from-u8.Learnt (one_equation _) ∷
+    fixed u8-from-flags.Learnt (one_equation _) ∷
     fixed accepted.Learnt (one_equation _) ∷
     fixed refused.Learnt (one_equation _) ∷
     fixed figure.Learnt (one_equation _) ∷
@@ -112,6 +110,6 @@ determined =
     fixed exec-bset.Learnt (one_equation _) ∷
     fixed exec-bclr.Learnt (one_equation _) ∷
     fixed exec-bchg.Learnt (one_equation _) ∷
-    fixed condition-number.Learnt (one_equation _) ∷
+    fixed u8-from-condition.Learnt (one_equation _) ∷
     fixed condition-at.Learnt (one_equation _) ∷
     fixed condition-holds.Learnt (one_equation _) ∷ []

@@ -4,12 +4,13 @@
 -- Assumes nothing.
 use mathlib.Core.Path.{◌≡◌, refl, sym, ap, ap₂, ◌∙◌}
 use mathlib.Core.Bool.{Bool, true, false, xor, ◌||◌}
-use mathlib.Core.Logic.{◌⊎◌, inl, inr}
-use Prim.Native.Nat.{ℕ, zero, suc, ◌+◌, ◌-◌, ◌*◌, ◌%◌, ◌^◌, ◌≤◌, ◌<◌}
+use borrow.Author.Tests.{leb-true, leb-false}
+use Prim.Native.Nat.{ℕ, zero, suc, ◌+◌, ◌-◌, ◌*◌, ◌%◌, ◌^◌, ◌≤◌, ◌<◌, min}
 use native.Mathlib.Nat.{pow-suc, zero-add, suc-add, zero-div, mul-one, zero-mod, mul-mod_left}
 use native.Mathlib.Omega.{arith}
-use lib.Dec.{eqb}
+use lib.Dec.{eqb, leb}
 use lib.Bits.{bit_or, bit_xor}
+use Rattle.std.proofs.Math.Nat.{min-eq_left, min-eq_right}
 use Rattle.alu.specs.Bits.{low, top}
 use Rattle.alu.specs.Shifts.{left, changed}
 use Rattle.alu.proofs.Bitwise.{top_or, top_xor}
@@ -77,9 +78,11 @@ unfolding top
 top_zero n = ap (λ (x : ℕ). eqb (x % 2) 1) (zero-div (2 ^ (n - 1)))
 
 -- the walk takes k positions, or n where k is more
-pub walk_start : (n k v j : ℕ) → (j ≡ k) ⊎ ((n ≤ k) × (j ≡ n)) → changed n k (low n v) ≡ top n 0 || changed n j (low n v)
-walk_start n k v j (inl all) = rw (top_zero n, all)
-walk_start n k v j (inr most) = rw (top_zero n, most.1) (changed_most n k v most.0)
+pub walk_start : (n k v : ℕ) → changed n k (low n v) ≡ top n 0 || changed n (min k n) (low n v)
+walk_start n k v = rw (top_zero n) (by_least (leb k n) refl) where
+  by_least : (least : Bool) → leb k n ≡ least → changed n k (low n v) ≡ changed n (min k n) (low n v)
+  by_least true e = rw (min-eq_left {n = k} {m = n} (leb-true k n e))
+  by_least false e = let more : n ≤ k = omega (arith, leb-false k n e) in rw (min-eq_right {n = n} {m = k} more) (changed_most n k v more)
 
 pub walk_end : (n k v seen : ℕ) → k ≡ 0 → top n seen || changed n k (low n v) ≡ top n seen
 unfolding changed

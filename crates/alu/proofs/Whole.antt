@@ -1,17 +1,19 @@
 -- The sum and the difference in n bits, as the code works them out:
 --     sum_whole, difference_whole      taken of whole operands and cut once at the end
 --     difference_masked                of masked operands
+--     wrapping_sum, wrapping_difference  of words, as std's wrapping sum and difference
 --     add_worked, sub_worked           V as the top bit of a word of masked operands, C by one comparison
 -- Assumes nothing.
 use mathlib.Core.Path.{◌≡◌, ◌∙◌, ap, ap₂, sym}
-use mathlib.Core.Bool.{Bool}
+use mathlib.Core.Bool.{Bool, false}
 use Prim.Native.Nat.{ℕ, ◌+◌, ◌-◌, ◌*◌, ◌/◌, ◌%◌, ◌^◌, ◌≤◌, ◌<◌}
-use native.Mathlib.Nat.{mod-lt, mod-mod, mod-add-mod, div-add-mod', div-lt_iff_lt-mul, mul-add-mod_self_right, pow-le-pow_right}
+use native.Mathlib.Nat.{add-zero, mod-lt, mod-mod, mod-add-mod, div-add-mod', div-lt_iff_lt-mul, mul-add-mod_self_right, pow-le-pow_right}
 use native.Mathlib.Omega.{arith}
 use lib.Dec.{leb, ltb, lit<}
 use lib.Pow.{pow_pos, pow-add, suc_ones}
 use lib.Bits.{bit_and, bit_xor}
 use Rattle.alu.specs.declared.types.Size.{Size}
+use Rattle.alu.specs.declared.types.Size.TheVariants.{Long}
 use Rattle.alu.specs.Bits.{bits_of, low, top, digit}
 use Rattle.alu.specs.ConditionCodes.{add_v, add_flags, sub_flags}
 use Rattle.alu.specs.Arith.{sum, difference}
@@ -59,6 +61,14 @@ difference_masked size s d x =
     let few : 2 ^ n ≤ 2 ^ 32 = pow-le-pow_right (lit< tt) (bits_le size) in
     let s-low : low n s < 2 ^ 32 = omega (arith, low_lt n s) in
     sym (difference_whole size (low n s) (low n d) x s-low) ∙ rw (mod-mod s (2 ^ n), mod-mod d (2 ^ n))
+
+-- of whole operands in 32 bits, as std's wrapping sum and difference
+pub wrapping_sum : (s d : ℕ) → (d + s) % 2 ^ 32 ≡ sum 32 s d false
+wrapping_sum s d = sym (sum_whole 32 s d false ∙ ap (λ (t : ℕ). t % 2 ^ 32) (add-zero (d + s)))
+
+pub wrapping_difference : (s d : ℕ) → s < 2 ^ 32 → (d + (2 ^ 32 - s)) % 2 ^ 32 ≡ difference 32 s d false
+wrapping_difference s d s-low =
+    sym (difference_whole Long s d false s-low ∙ ap (λ (t : ℕ). t % 2 ^ 32) (let e : 2 ^ 32 + d - (s + 0) ≡ d + (2 ^ 32 - s) = omega arith in e))
 
 -- ---- with their flags
 

@@ -1,6 +1,7 @@
 -- Numbers over n bits: the parts of a number that the Manual speaks of, and its signed reading.
 -- Assumes nothing.
-use Rattle.std.specs.Prelude.{ℕ, ◌+◌, ◌-◌, ◌*◌, ◌/◌, ◌%◌, ◌^◌, Bool, true, false, ◌&&◌, eqb, ℤ, pos, neg_ℤ, ◌-ℤ◌}
+use Rattle.std.specs.Prelude.{ℕ, ◌+◌, ◌-◌, ◌*◌, ◌/◌, ◌%◌, ◌^◌, Bool, ◌&&◌, eqb, ℤ, pos, neg_ℤ, ◌-ℤ◌}
+use Rattle.std.specs.Int.{from_bool}
 use Rattle.std.specs.Int.Signed.{le_z, lt_z}
 use Rattle.alu.specs.declared.types.Size.{Size}
 use Rattle.alu.specs.declared.types.Size.TheVariants.{Byte, Word, Long}
@@ -34,8 +35,7 @@ width_of n = record { mask = 2 ^ n - 1; top = 2 ^ (n - 1) }
 
 -- a flag as a number
 abbrev pub digit : Bool → ℕ
-digit true = 1
-digit false = 0
+digit = from_bool
 
 -- the number whose low n bits are a and whose bits above are b
 abbrev pub join : (n a b : ℕ) → ℕ

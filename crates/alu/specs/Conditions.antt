@@ -1,12 +1,10 @@
 -- The sixteen conditions of the Manual's conditional tests: document 02, item 5. They are one list of rows, and the place of a row is the number of its
 -- condition (`condition_places` of proofs/ConditionTable). Assumes nothing.
-use Rattle.std.specs.Prelude.{ℕ, Bool, true, false, not, ◌&&◌, ◌||◌, List, [], ◌∷◌, map, get_or}
+use Rattle.std.specs.Prelude.{ℕ, Bool, true, false, not, ◌&&◌, ◌||◌, List, [], ◌∷◌, map, get_or, Option, Some, None}
 use Prim.Native.String.{String}
 use Rattle.alu.specs.declared.types.Flags.{Flags}
 use Rattle.alu.specs.declared.conditions.Condition.{Condition}
 use Rattle.alu.specs.declared.conditions.Condition.TheVariants.{T, F, Hi, Ls, Cc, Cs, Ne, Eq, Vc, Vs, Pl, Mi, Ge, Lt, Gt, Le}
-use Rattle.alu.specs.declared.conditions.ConditionFound.{ConditionFound}
-use Rattle.alu.specs.declared.conditions.ConditionFound.TheVariants.{Is, NoCondition}
 
 -- the Manual's formulas
 abbrev pub formula : Condition → (n z v c : Bool) → Bool
@@ -60,8 +58,8 @@ conditions =
     condition_row Le "LE" ∷ []
 
 -- the condition of a number, if there is a row of that place
-abbrev pub condition_at : ℕ → ConditionFound
-condition_at n = get_or (map (λ (r : ConditionRow). Is r.condition) conditions) n NoCondition
+abbrev pub condition_at : ℕ → Option Condition
+condition_at n = get_or (map (λ (r : ConditionRow). Some r.condition) conditions) n None
 
 -- the place of a condition's row
 abbrev pub condition_number : Condition → ℕ

@@ -5,9 +5,9 @@ ghost use Rattle.std.specs.Prelude.{◌≡◌, ℕ, ◌<◌, ◌^◌, cond, ltb}
 ghost use Rattle.alu.specs.Answers.{accepted, only_long};
 ghost use Rattle.alu.specs.Bitops.{bit_flags, bitop_of};
 
-use super::types::{Answer, Flags, Size, Verdict, accepted, refused};
+use super::types::{Answer, Flags, Size, Verdict};
 
-#[derive(Clone, Copy)]
+#[derive(Clone, Copy, PartialEq, Eq)]
 pub enum BitOp {
     Btst,
     Bset,
@@ -35,23 +35,20 @@ fn bit_answer(w: u32, value: u32, res: u32, flags: Flags, clocks: u32) -> Answer
     ensures { (k : ℕ) → w ≡ 2 ^ k → result ≡ accepted res (bit_flags k value flags) clocks }
 {
     let new = Flags {
-        x: flags.x,
-        n: flags.n,
         z: value & w == 0,
-        v: flags.v,
-        c: flags.c,
+        ..flags
     };
-    accepted(res, new, clocks)
+    Answer::accepted(res, new, clocks)
 }
 
 // The answer, or the refusal: there is no byte and no word form.
 fn only_long(size: Size, flags: Flags, answer: Answer) -> Answer
     ensures { result ≡ only_long size flags answer }
 {
-    match size {
-        Size::Byte => refused(Verdict::NoSuchSize, flags),
-        Size::Word => refused(Verdict::NoSuchSize, flags),
-        Size::Long => answer,
+    if size == Size::Long {
+        answer
+    } else {
+        Answer::refused(Verdict::NoSuchSize, flags)
     }
 }
 

@@ -2,10 +2,10 @@
 ghost use Rattle.std.specs.Prelude.{◌≡◌, ◌<◌};
 ghost use Rattle.alu.specs.Conditions.{condition_number, condition_at, condition_holds};
 
-use super::types::{Flags, ccr};
+use super::types::Flags;
 
 // In the Manual's order, which is that of their numbers in an opcode.
-#[derive(Clone, Copy)]
+#[derive(Clone, Copy, PartialEq, Eq)]
 pub enum Condition {
     T,
     F,
@@ -23,13 +23,6 @@ pub enum Condition {
     Lt,
     Gt,
     Le,
-}
-
-// The condition of a number, if it names one.
-#[derive(Clone, Copy)]
-pub enum ConditionFound {
-    Is(Condition),
-    NoCondition,
 }
 
 // A word for each condition, with a bit for each setting of N, Z, V and C: bit 8N + 4Z + 2V + C.
@@ -53,50 +46,53 @@ const CONDITIONS: [u16; 16] = [
 ];
 
 // The place of a condition in the table.
-pub fn number(condition: Condition) -> u8
-    ensures { result ≡ condition_number condition }
-{
-    match condition {
-        Condition::T => 0,
-        Condition::F => 1,
-        Condition::Hi => 2,
-        Condition::Ls => 3,
-        Condition::Cc => 4,
-        Condition::Cs => 5,
-        Condition::Ne => 6,
-        Condition::Eq => 7,
-        Condition::Vc => 8,
-        Condition::Vs => 9,
-        Condition::Pl => 10,
-        Condition::Mi => 11,
-        Condition::Ge => 12,
-        Condition::Lt => 13,
-        Condition::Gt => 14,
-        Condition::Le => 15,
+impl From<Condition> for u8 {
+    ghost from_gives = { λ condition number. number ≡ condition_number condition };
+
+    fn from(condition: Condition) -> u8 {
+        match condition {
+            Condition::T => 0,
+            Condition::F => 1,
+            Condition::Hi => 2,
+            Condition::Ls => 3,
+            Condition::Cc => 4,
+            Condition::Cs => 5,
+            Condition::Ne => 6,
+            Condition::Eq => 7,
+            Condition::Vc => 8,
+            Condition::Vs => 9,
+            Condition::Pl => 10,
+            Condition::Mi => 11,
+            Condition::Ge => 12,
+            Condition::Lt => 13,
+            Condition::Gt => 14,
+            Condition::Le => 15,
+        }
     }
 }
 
-pub fn condition_at(number: u8) -> ConditionFound
+// The condition of a number, if it names one.
+pub fn condition_at(number: u8) -> Option<Condition>
     ensures { result ≡ condition_at number }
 {
     match number {
-        0 => ConditionFound::Is(Condition::T),
-        1 => ConditionFound::Is(Condition::F),
-        2 => ConditionFound::Is(Condition::Hi),
-        3 => ConditionFound::Is(Condition::Ls),
-        4 => ConditionFound::Is(Condition::Cc),
-        5 => ConditionFound::Is(Condition::Cs),
-        6 => ConditionFound::Is(Condition::Ne),
-        7 => ConditionFound::Is(Condition::Eq),
-        8 => ConditionFound::Is(Condition::Vc),
-        9 => ConditionFound::Is(Condition::Vs),
-        10 => ConditionFound::Is(Condition::Pl),
-        11 => ConditionFound::Is(Condition::Mi),
-        12 => ConditionFound::Is(Condition::Ge),
-        13 => ConditionFound::Is(Condition::Lt),
-        14 => ConditionFound::Is(Condition::Gt),
-        15 => ConditionFound::Is(Condition::Le),
-        _ => ConditionFound::NoCondition,
+        0 => Some(Condition::T),
+        1 => Some(Condition::F),
+        2 => Some(Condition::Hi),
+        3 => Some(Condition::Ls),
+        4 => Some(Condition::Cc),
+        5 => Some(Condition::Cs),
+        6 => Some(Condition::Ne),
+        7 => Some(Condition::Eq),
+        8 => Some(Condition::Vc),
+        9 => Some(Condition::Vs),
+        10 => Some(Condition::Pl),
+        11 => Some(Condition::Mi),
+        12 => Some(Condition::Ge),
+        13 => Some(Condition::Lt),
+        14 => Some(Condition::Gt),
+        15 => Some(Condition::Le),
+        _ => None,
     }
 }
 
@@ -104,8 +100,8 @@ pub fn condition_at(number: u8) -> ConditionFound
 pub fn holds(condition: Condition, flags: Flags) -> bool
     ensures { result ≡ condition_holds condition flags }
 {
-    let i = number(condition) as usize;
-    let word = CONDITIONS[i];
-    let setting = ccr(flags) % 16;
+    let number = u8::from(condition);
+    let word = CONDITIONS[usize::from(number)];
+    let setting = u8::from(flags) % 16;
     (word >> setting) % 2 == 1
 }

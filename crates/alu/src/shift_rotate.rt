@@ -5,14 +5,12 @@
 // for counts at and above the size fall away: what stands in X's place at the end is the last bit out.
 ghost use Rattle.std.specs.Prelude.{◌≡◌, ◌+◌, ◌-◌, ◌%◌, ◌<◌, ◌≤◌, ◌^◌};
 ghost use Rattle.alu.specs.Bits.{bits_of, low};
-ghost use Rattle.alu.specs.Shifts.{start, moved, changed, shift_answer, shifted, shift_of};
+ghost use Rattle.alu.specs.Shifts.{rotated, start, moved, changed, shift_answer, shifted, shift_of};
 ghost use Rattle.alu.specs.Places.{above, below, from_above, from_below, turned_left};
 
-use super::types::{
-    Answer, Flags, Size, Verdict, accepted, digit, figure, masked, refused, result_flags, top,
-};
+use super::types::{Answer, Flags, Size, Verdict, result_flags};
 
-#[derive(Clone, Copy)]
+#[derive(Clone, Copy, PartialEq, Eq)]
 pub enum ShiftOp {
     Asl,
     Asr,
@@ -25,47 +23,25 @@ pub enum ShiftOp {
 }
 
 // An operand and the bit that went out of it last; before the first position that is X.
-#[derive(Clone, Copy)]
+#[derive(Clone, Copy, PartialEq, Eq)]
 pub struct Held {
     pub value: u32,
     pub out: bool,
-}
-
-fn bits(size: Size) -> u32
-    ensures { (result ≡ bits_of size) × (0 < result) × (result ≤ 32) }
-{
-    match size {
-        Size::Byte => 8,
-        Size::Word => 16,
-        Size::Long => 32,
-    }
-}
-
-// 2 to the number of bits.
-fn modulus(size: Size) -> u64
-    ensures { (result ≡ 2 ^ bits_of size) × (0 < result) × (result ≤ 2 ^ 32) }
-{
-    match size {
-        Size::Byte => 0x100,
-        Size::Word => 0x1_0000,
-        Size::Long => 0x1_0000_0000,
-    }
 }
 
 // The operand with X above it, and below it.
 fn above_of(size: Size, value: u32, x: bool) -> u64
     ensures { (result ≡ above (bits_of size) (start (bits_of size) value x)) × (result < 2 ^ 33) }
 {
-    let operand = masked(size, value as u64) as u64;
-    let weight = digit(x) as u64 * modulus(size);
-    operand + weight
+    let operand = size.masked(value as u64) as u64;
+    operand + u64::from(x) * size.modulus()
 }
 
 fn below_of(size: Size, value: u32, x: bool) -> u64
     ensures { (result ≡ below (start (bits_of size) value x)) × (result < 2 ^ 33) }
 {
-    let operand = masked(size, value as u64) as u64;
-    2 * operand + digit(x) as u64
+    let operand = size.masked(value as u64) as u64;
+    2 * operand + u64::from(x)
 }
 
 // And back: the operand, and the bit in X's place.
@@ -73,8 +49,8 @@ fn from_above(size: Size, places: u64) -> Held
     ensures { result ≡ from_above (bits_of size) places }
 {
     Held {
-        value: masked(size, places),
-        out: (places >> bits(size)) % 2 == 1,
+        value: size.masked(places),
+        out: (places >> size.bits()) % 2 == 1,
     }
 }
 
@@ -113,7 +89,7 @@ fn asr(size: Size, k: u32, value: u32, x: bool) -> Held
     ensures { result ≡ moved ShiftOp.Asr (bits_of size) k value x }
 {
     let places = below_of(size, value, x);
-    let least = modulus(size);
+    let least = size.modulus();
     let ones = 2 * least - 1;
     let fill = if places < least {
         0
@@ -128,17 +104,14 @@ fn asr(size: Size, k: u32, value: u32, x: bool) -> Held
 fn asl_overflow(size: Size, k: u32, value: u32) -> bool
     ensures { result ≡ changed (bits_of size) k (low (bits_of size) value) }
 {
-    let most = bits(size);
-    let mut left = if k < most { k } else { most };
     let mut operand = value;
     let mut changes: u32 = 0;
-    while left > 0 {
+    for _ in 0..k.min(size.bits()) {
         let next = operand << 1;
         changes = changes | operand ^ next;
         operand = next;
-        left -= 1;
     }
-    top(size, changes)
+    size.top(changes)
 }
 
 // A ring of so many places, turned to the left by j of them.
@@ -175,8 +148,8 @@ fn rotate(size: Size, j: u32, value: u32) -> u32
     requires { j ≤ bits_of size }
     ensures { result ≡ turned_left (bits_of size) j (low (bits_of size) value) }
 {
-    let ring = masked(size, value as u64) as u64;
-    turned_left(bits(size), j, ring) as u32
+    let ring = size.masked(value as u64) as u64;
+    turned_left(size.bits(), j, ring) as u32
 }
 
 // The bits and X go round.
@@ -184,7 +157,7 @@ fn roxl(size: Size, k: u32, value: u32, x: bool) -> Held
     ensures { result ≡ moved ShiftOp.Roxl (bits_of size) k value x }
 {
     let ring = above_of(size, value, x);
-    let places = bits(size) + 1;
+    let places = size.bits() + 1;
     from_above(size, turned_left(places, round_x(size, k), ring))
 }
 
@@ -192,7 +165,7 @@ fn roxr(size: Size, k: u32, value: u32, x: bool) -> Held
     ensures { result ≡ moved ShiftOp.Roxr (bits_of size) k value x }
 {
     let ring = below_of(size, value, x);
-    let places = bits(size) + 1;
+    let places = size.bits() + 1;
     from_below(turned_left(places, places - round_x(size, k), ring))
 }
 
@@ -202,8 +175,8 @@ fn shift_answer(size: Size, k: u32, res: u32, x: bool, v: bool, c: bool) -> Answ
     ensures { result ≡ shift_answer size k res x v c }
 {
     let flags = result_flags(size, res, x, v, c);
-    let clocks = figure(size, 6, 8) + 2 * k;
-    accepted(res, flags, clocks)
+    let clocks = size.figure(6, 8) + 2 * k;
+    Answer::accepted(res, flags, clocks)
 }
 
 // A shift by 0 returns the value as it was handed in, and clears C.
@@ -255,14 +228,22 @@ pub fn exec_lsr(size: Size, shift: u32, value: u32, flags: Flags) -> Answer
     shifted(size, k, value, h, false)
 }
 
+// Of ROL and ROR C is the last bit out, by 0 clear; X is kept.
+fn rotated(size: Size, k: u32, h: Held, x: bool) -> Answer
+    requires { k < 64 }
+    ensures { result ≡ rotated size k h x }
+{
+    shift_answer(size, k, h.value, x, false, (k != 0) & h.out)
+}
+
 // ROL Dx,Dy and ROL #<data>,Dy. X is kept. The last bit out is the one that came in last.
 pub fn exec_rol(size: Size, shift: u32, value: u32, flags: Flags) -> Answer
     ensures { result ≡ shift_of ShiftOp.Rol size shift value flags }
 {
     let k = shift % 64;
-    let result = rotate(size, round(size, k), value);
-    let last = result % 2 == 1;
-    shift_answer(size, k, result, flags.x, false, (k != 0) & last)
+    let value = rotate(size, round(size, k), value);
+    let out = value % 2 == 1;
+    rotated(size, k, Held { value, out }, flags.x)
 }
 
 // ROR Dx,Dy and ROR #<data>,Dy
@@ -270,19 +251,18 @@ pub fn exec_ror(size: Size, shift: u32, value: u32, flags: Flags) -> Answer
     ensures { result ≡ shift_of ShiftOp.Ror size shift value flags }
 {
     let k = shift % 64;
-    let rest = bits(size) - round(size, k);
-    let result = rotate(size, rest, value);
-    let last = top(size, result);
-    shift_answer(size, k, result, flags.x, false, (k != 0) & last)
+    let value = rotate(size, size.bits() - round(size, k), value);
+    let out = size.top(value);
+    rotated(size, k, Held { value, out }, flags.x)
 }
 
 // ROXL Dx,Dy and ROXL #<data>,Dy. C and X are the one bit, after whole rounds too (9 on a byte). The
-// figure is of the whole count.
+// figure is of the whole count. (One function for ROXL and ROXR, which takes what `roxl` or `roxr` gives, takes 18 instructions more.)
 pub fn exec_roxl(size: Size, shift: u32, value: u32, flags: Flags) -> Answer
     ensures { result ≡ shift_of ShiftOp.Roxl size shift value flags }
 {
     if 63 < shift {
-        return refused(Verdict::BadCount, flags);
+        return Answer::refused(Verdict::BadCount, flags);
     }
     let left = roxl(size, shift, value, flags.x);
     shift_answer(size, shift, left.value, left.out, false, left.out)
@@ -293,7 +273,7 @@ pub fn exec_roxr(size: Size, shift: u32, value: u32, flags: Flags) -> Answer
     ensures { result ≡ shift_of ShiftOp.Roxr size shift value flags }
 {
     if 63 < shift {
-        return refused(Verdict::BadCount, flags);
+        return Answer::refused(Verdict::BadCount, flags);
     }
     let right = roxr(size, shift, value, flags.x);
     shift_answer(size, shift, right.value, right.out, false, right.out)

@@ -1,131 +1,54 @@
 // Carries that went out of a number on the way: the X that an add, sub or up line left behind its last step. Of the recipe's
 // last line the table's end row has it; of any other the next line makes another X, and it is told here.
-ghost use Rattle.std.specs.Prelude.{◌≤◌};
-
-use crate::course::{line_of, one_more, step_at};
-use crate::numbers::count_of;
-use crate::pen::{Pen, at_start, put, put_decimal, put_line};
+use crate::course::{Done, Run, line_of};
+use crate::pen::Pen;
 use recipes::lines::target;
-use recipes::types::{LINES_MAX, Line, Listing, Recipe, Verb};
-use step::runs::Ran;
+use recipes::types::{LINES_MAX, Recipe, Verb};
+
+// Of each line the number that a carry went out of, if one did.
+type Carries = [Option<u8>; LINES_MAX];
 
 // Whether X behind a line of this verb is a carry or borrow out of its number. (X behind `neg` says that it was not 0.)
 fn carries(verb: Verb) -> bool {
-    match verb {
-        Verb::Clear => false,
-        Verb::Copy => false,
-        Verb::Add => true,
-        Verb::Sub => true,
-        Verb::Neg => false,
-        Verb::Not => false,
-        Verb::Halve => false,
-        Verb::Down => false,
-        Verb::Up => true,
-    }
+    matches!(verb, Verb::Add | Verb::Sub | Verb::Up)
 }
 
-// Which lines of a recipe, other than its last, were ended by one of the steps and left a carry.
-pub(crate) fn carried(recipe: Recipe, made: Listing, start: Ran, steps: u32) -> [bool; LINES_MAX] {
-    let lines = recipe.lines;
-    let mut marked = [false; LINES_MAX];
-    let mut ran = start;
-    let mut left = steps;
-    while 0 < left {
-        let after = one_more(made, ran);
-        let step = step_at(made, ran.next);
-        let behind = step_at(made, after.next);
+// Of the lines of a recipe, other than its last, that were ended in a run.
+fn carried(recipe: &Recipe, run: Run) -> Carries {
+    let mut out = [None; LINES_MAX];
+    for Done { step, after, .. } in run.steps() {
+        let ended = run.text_line_at(after.next) != Some(step.line);
         let k = line_of(step);
-        let line = lines[k];
-        let verb = line.verb;
-        let state = after.state;
-        let flags = state.flags;
-        let ended = behind.line != step.line;
-        if ended & (k + 1 < recipe.count) {
-            marked[k] = flags.x & carries(verb);
+        let line = recipe.lines[k];
+        if ended && k + 1 < recipe.count && after.state.flags.x && carries(line.verb) {
+            out[k] = Some(target(line));
         }
-        ran = after;
-        left -= 1;
     }
-    marked
+    out
 }
 
-// Whether a line is marked, and changes this number.
-fn is_of(line: Line, marked: bool, number: u8) -> bool {
-    marked & (target(line) == number)
-}
-
-fn one_if(so: bool) -> u64
-    ensures { result ≤ 1 }
-{
-    if so { 1 } else { 0 }
-}
-
-fn count_at(recipe: Recipe, marked: [bool; LINES_MAX], number: u8) -> u64 {
-    let lines = recipe.lines;
-    let mut count = 0;
-    let mut k = 0;
-    while k < LINES_MAX {
-        count += one_if(is_of(lines[k], marked[k], number));
-        k += 1;
+// The line of a number, where a carry went out of it. Line k, from 0, is text line k + 2.
+fn put_carry(pen: &mut Pen, out: &Carries, number: u8) {
+    let many = out.iter().filter(|it| **it == Some(number)).count();
+    if many == 0 {
+        return;
     }
-    count
-}
-
-// The text lines, behind one another: line k, from 0, is text line k + 2.
-fn put_lines(pen: Pen, recipe: Recipe, marked: [bool; LINES_MAX], number: u8) -> Pen {
-    let lines = recipe.lines;
-    let mut next = pen;
-    let mut some = false;
-    let mut k = 0;
-    while k < LINES_MAX {
-        if is_of(lines[k], marked[k], number) {
-            if some {
-                next = put(next, b",");
-            }
-            next = put(next, b" ");
-            next = put_decimal(next, k as u64 + 2);
-            some = true;
+    let end = if many == 1 { "" } else { "s" };
+    write!(pen, "carry out of number {number} at line{end}");
+    let mut comma = "";
+    for (k, it) in out.iter().enumerate() {
+        if *it == Some(number) {
+            write!(pen, "{comma} {}", k + 2);
+            comma = ",";
         }
-        k += 1;
     }
-    next
-}
-
-fn carry_line(recipe: Recipe, marked: [bool; LINES_MAX], number: u8, many: bool) -> Pen {
-    let next = put(at_start(), b"carry out of number ");
-    let next = put_decimal(next, number as u64);
-    let next = put(next, b" at line");
-    let next = if many { put(next, b"s") } else { next };
-    put_lines(next, recipe, marked, number)
-}
-
-// The line of a number, where a carry went out of it.
-fn put_carry(
-    out: &mut [u8],
-    at: usize,
-    recipe: Recipe,
-    marked: [bool; LINES_MAX],
-    number: u8,
-) -> usize {
-    let count = count_at(recipe, marked, number);
-    if count == 0 {
-        return at;
-    }
-    put_line(out, at, carry_line(recipe, marked, number, 1 < count))
+    writeln!(pen);
 }
 
 // The lines of all numbers.
-pub(crate) fn put_carries(
-    out: &mut [u8],
-    at: usize,
-    recipe: Recipe,
-    marked: [bool; LINES_MAX],
-) -> usize {
-    let mut next = at;
-    let mut number = 0;
-    while number < count_of(recipe.width) {
-        next = put_carry(out, next, recipe, marked, number);
-        number += 1;
+pub(crate) fn put_carries(pen: &mut Pen, recipe: &Recipe, run: Run) {
+    let out = carried(recipe, run);
+    for number in 0..8 {
+        put_carry(pen, &out, number);
     }
-    next
 }

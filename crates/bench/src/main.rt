@@ -16,35 +16,36 @@ mod slips;
 mod table;
 mod words;
 
-use input::{LINE_MAX, failure_line, read_text};
-use pen::within;
-use recipes::printer::print_refusal;
+use boxes::Rack;
+use course::Run;
+use input::read_text;
+use pen::Pen;
 use recipes::reader::read;
 use recipes::translator::translate_array;
-use recipes::types::{Recipe, TEXT_MAX, is_nothing};
-use slips::put_slip;
+use recipes::types::{Listing, Recipe, Refused, TEXT_MAX};
+use slips::{put_refusal, put_slip};
 use std::env::Env;
 use std::io::Write;
 use std::rt::Files;
-use words::{Words, read_words};
+use step::forms::Step;
+use table::Shown;
+use words::{View, Words, read_words, tell_failed};
 
-// A recipe that was read is always translated.
-fn put_run<R: Env + Files, W: Write>(
+fn put_run<'a, R: Env + Files, W: Write>(
     rt: &R,
     to: &mut W,
-    out: &mut [u8],
+    pen: &mut Pen,
     words: Words,
-    text: &[u8],
-    recipe: Recipe,
-) -> usize {
+    text: &'a [u8],
+    recipe: &'a Recipe,
+    listing: &'a [Step],
+) {
     let asked = words.asked;
-    let made = translate_array(recipe);
-    if 0 < words.file {
-        boxes::put_run(rt, to, out, asked, words.file, recipe, made)
-    } else if asked.rows {
-        rows::put_run(out, asked, made)
-    } else {
-        table::put_run(out, asked, text, recipe, made)
+    let run = Run { listing, asked };
+    match words.view {
+        View::Table => Shown { text, recipe, run }.put(pen),
+        View::Rows => rows::put_run(pen, run),
+        View::Boxes(i) => Rack { recipe, run }.put_run(rt, to, pen, i),
     }
 }
 
@@ -53,48 +54,43 @@ fn put_run<R: Env + Files, W: Write>(
 // words of at most 228, and less than 1,000 bytes above them.
 const ROOM: usize = 65536;
 
+// A text's recipe and its listing. A recipe that was read is always translated.
+fn translated(text: &[u8]) -> Result<(Recipe, Listing), Refused> {
+    let recipe = read(text)?;
+    let listing = translate_array(recipe)?;
+    Ok((recipe, listing))
+}
+
 // The whole answer to a text.
-fn answer<R: Env + Files, W: Write>(
-    rt: &R,
-    to: &mut W,
-    out: &mut [u8],
-    words: Words,
-    text: &[u8],
-) -> usize {
-    let asked = words.asked;
-    let reading = read(text);
-    let refused = reading.refused;
-    let recipe = reading.recipe;
-    if !is_nothing(refused) {
-        let next = print_refusal(refused, out);
-        if asked.rows {
-            return next;
+fn answer<R: Env + Files, W: Write>(rt: &R, to: &mut W, pen: &mut Pen, words: Words, text: &[u8]) {
+    match translated(text) {
+        Ok((recipe, listing)) => put_run(rt, to, pen, words, text, &recipe, listing.steps()),
+        Err(refused) => {
+            put_refusal(pen, refused);
+            if !matches!(words.view, View::Rows) {
+                put_slip(pen, text, refused);
+            }
         }
-        return put_slip(out, next, text, refused);
     }
-    put_run(rt, to, out, words, text, recipe)
 }
 
 fn main(rt: HostRuntime) {
     let mut told = rt.stderr();
-    let words = read_words(&rt, &mut told);
-    if !words.understood {
+    let Some(words) = read_words(&rt, &mut told) else {
         return;
-    }
-    let mut line = [0u8; LINE_MAX];
+    };
     let mut text = [0u8; TEXT_MAX];
-    let input = read_text(&mut rt.stdin(), &mut text);
-    if let Some(error) = input.failed {
-        let k = failure_line(&mut line, b"bench: standard input", error);
-        let _ = told.write_all(&line[..k]);
-        return;
-    }
-    let n = input.n;
+    let n = match read_text(&mut rt.stdin(), &mut text) {
+        Ok(n) => n,
+        Err(failed) => {
+            tell_failed(&mut told, b"bench: standard input", failed.error);
+            return;
+        }
+    };
     let mut out = [0u8; ROOM];
-    let m = answer(&rt, &mut told, &mut out, words, &text[..n]);
-    let m = within(m, &out);
-    if let Err(error) = rt.stdout().write_all(&out[..m]) {
-        let k = failure_line(&mut line, b"bench: standard output", error);
-        let _ = told.write_all(&line[..k]);
+    let mut pen = Pen::new(&mut out);
+    answer(&rt, &mut told, &mut pen, words, &text[..n]);
+    if let Err(error) = rt.stdout().write_all(pen.written()) {
+        tell_failed(&mut told, b"bench: standard output", error);
     }
 }

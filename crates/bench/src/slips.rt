@@ -1,110 +1,113 @@
 // What is wrong with a recipe that is refused, for people: the bad line made visible, a mark below its column, and what to do.
-ghost use Rattle.std.specs.Prelude.{◌≤◌};
+ghost use Rattle.std.specs.Prelude.{◌+◌, ◌≤◌};
 
-use crate::pen::{
-    Pen, TAB, at_start, line_start, place_of, put, put_byte, put_decimal, put_fields, put_line,
-    tab, within,
-};
-use recipes::types::{Refused, number};
-use text::parts::first;
-use text::types::NEWLINE;
+use crate::pen::{Pen, TAB, line_at};
+use recipes::printer::print_refusal;
+use recipes::types::{Refusal, Refused};
+use std::fmt;
 
 // The most bytes of a line that are shown; where the column lies beyond, so many of them stand before it.
 const SHOWN: usize = 60;
 
 const BEFORE: usize = 40;
 
-// A byte as one character. A `>` that was typed is no tab, so it is not shown as one.
-fn seen(b: u8) -> u8 {
-    match b {
-        TAB => b'>',
-        b'>' => b'?',
-        32..=126 => b,
-        _ => b'?',
-    }
-}
+// Room for a refusal by its numbers: a word, and three numbers of at most 20 digits.
+const REFUSAL_ROOM: usize = 80;
 
-// The bytes of a row from a place up to another, or to its end.
-fn put_seen(pen: Pen, row: &[u8], from: usize, to: usize) -> Pen {
-    let mut next = pen;
-    let mut at = from;
-    while at < row.len() {
-        if to <= at {
-            return next;
+// Bytes as characters, one for each. A `>` that was typed is no tab, so it is not shown as one.
+#[derive(Clone, Copy)]
+struct Seen<'a>(&'a [u8]);
+
+impl fmt::Display for Seen<'_> {
+    fn fmt<W: fmt::Write>(&self, f: &mut fmt::Formatter<W>) -> fmt::Result {
+        for b in self.0 {
+            f.write_char(match *b {
+                TAB => '>',
+                b'>' => '?',
+                32..=126 => char::from(*b),
+                _ => '?',
+            })?;
         }
-        next = put_byte(next, seen(row[at]));
-        at += 1;
+        Ok(())
     }
-    next
 }
 
-fn put_dots(pen: Pen, left_off: bool) -> Pen {
-    if left_off { put(pen, b"..") } else { pen }
-}
+// The first bytes of a line, and dots where it has more.
+#[derive(Clone, Copy)]
+pub(crate) struct Start<'a>(pub &'a [u8]);
 
-// The first bytes of a row, and dots where it has more.
-pub(crate) fn put_start(pen: Pen, row: &[u8]) -> Pen {
-    let next = put_seen(pen, row, 0, SHOWN);
-    put_dots(next, SHOWN < row.len())
-}
-
-fn head(line: usize) -> Pen {
-    let next = put(at_start(), b"line ");
-    let next = put_decimal(next, line as u64);
-    put(next, b" (> is a tab): ")
-}
-
-fn mark_below(at: usize) -> Pen {
-    put_byte(tab(at_start(), at), b'^')
+impl fmt::Display for Start<'_> {
+    fn fmt<W: fmt::Write>(&self, f: &mut fmt::Formatter<W>) -> fmt::Result {
+        let all = self.0;
+        let shown = &all[..all.len().min(SHOWN)];
+        write!(f, "{}{}", Seen(shown), dots(SHOWN < all.len()))
+    }
 }
 
 // The first place that is shown, for a mark at `here`.
 fn start_for(here: usize) -> usize
-    ensures { result ≤ here }
+    ensures { (result ≤ here) × (here ≤ result + 60) }
 {
     if here < SHOWN { 0 } else { here - BEFORE }
 }
 
+fn dots(left_off: bool) -> &'static str {
+    if left_off { ".." } else { "" }
+}
+
 // The line and, where the refusal has a column, the mark.
-fn put_shown(out: &mut [u8], at: usize, refused: Refused, row: &[u8]) -> usize {
-    let here = within(place_of(refused.column), row);
+fn put_shown(pen: &mut Pen, refused: Refused, row: &[u8]) {
+    let here = refused.column.saturating_sub(1).min(row.len());
     let start = start_for(here);
-    let end = start + SHOWN;
-    let pen = put_dots(head(refused.line), 0 < start);
-    let pen = put_seen(pen, row, start, here);
-    let below = pen.at;
-    let pen = put_seen(pen, row, here, end);
-    let pen = put_dots(pen, end < row.len());
-    let next = put_line(out, at, pen);
-    if refused.column == 0 {
-        return next;
+    let end = row.len().min(start + SHOWN);
+    write!(pen, "line {} (> is a tab): ", refused.line);
+    write!(pen, "{}{}", dots(0 < start), Seen(&row[start..here]));
+    let below = pen.column();
+    writeln!(pen, "{}{}", Seen(&row[here..end]), dots(end < row.len()));
+    if refused.column != 0 {
+        pen.tab(below);
+        writeln!(pen, "^");
     }
-    put_line(out, next, mark_below(below))
 }
 
-// What to do: line k of this text, from 0, is said of refusal k. It has `LINES_MAX` and `TEXT_MAX` written out.
-fn advice(number: u8) -> Pen {
-    let all = b"\n\n\n\n\
-        Make the first line the word width, one tab and 1, 2 or 4, with nothing but a line end behind.\n\
-        \n\
-        Take a number that is there: 0 to 7 at width 1, 0 to 3 at width 2, 0 and 1 at width 4.\n\
-        Leave this line out, or copy onto another number: a copy onto itself would lose it.\n\
-        Cut the recipe in two: it has at most 32 lines behind the width line.\n\
-        \n\
-        \n\
-        Begin the line with a verb and a tab: clear, copy, add, sub, neg, not, halve, down or up.\n\
-        Give copy, add and sub two numbers, every other verb one, each behind one tab, and nothing more.\n\
-        Write one digit here, and nothing else.\n\
-        Put a line end here, as behind every line. Only the first 1,024 bytes of a text are read.\n";
-    put_fields(at_start(), all, line_start(all, number as usize))
+// What to do. It has `LINES_MAX` and `TEXT_MAX` written out.
+fn advice(refusal: Refusal) -> &'static str {
+    match refusal {
+        Refusal::WidthLine => {
+            "Make the first line the word width, one tab and 1, 2 or 4, with nothing but a line end behind."
+        }
+        Refusal::NoSuchNumber => {
+            "Take a number that is there: 0 to 7 at width 1, 0 to 3 at width 2, 0 and 1 at width 4."
+        }
+        Refusal::OntoItself => {
+            "Leave this line out, or copy onto another number: a copy onto itself would lose it."
+        }
+        Refusal::TooManyLines => {
+            "Cut the recipe in two: it has at most 32 lines behind the width line."
+        }
+        Refusal::UnknownVerb => {
+            "Begin the line with a verb and a tab: clear, copy, add, sub, neg, not, halve, down or up."
+        }
+        Refusal::WrongFields => {
+            "Give copy, add and sub two numbers, every other verb one, each behind one tab, and nothing more."
+        }
+        Refusal::NotADigit => "Write one digit here, and nothing else.",
+        Refusal::NoNewline => {
+            "Put a line end here, as behind every line. Only the first 1,024 bytes of a text are read."
+        }
+        // No text is refused so.
+        Refusal::NoSpace => "",
+    }
 }
 
-// Writes at a place of `out`, and answers the next place.
-pub(crate) fn put_slip(out: &mut [u8], at: usize, text: &[u8], refused: Refused) -> usize {
-    let refusal = refused.refusal;
-    let from = line_start(text, place_of(refused.line));
-    let left = &text[from..];
-    let end = first(left, NEWLINE);
-    let next = put_shown(out, at, refused, &left[..end]);
-    put_line(out, next, advice(number(refusal)))
+// The refusal by its numbers.
+pub(crate) fn put_refusal(pen: &mut Pen, refused: Refused) {
+    let mut line = [0u8; REFUSAL_ROOM];
+    let n = print_refusal(refused, &mut line);
+    pen.put(line.get(..n).unwrap_or(&line));
+}
+
+pub(crate) fn put_slip(pen: &mut Pen, text: &[u8], refused: Refused) {
+    put_shown(pen, refused, line_at(text, refused.line.saturating_sub(1)));
+    writeln!(pen, "{}", advice(refused.refusal));
 }

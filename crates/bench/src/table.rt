@@ -1,18 +1,15 @@
 // A run as a table: all numbers at the start; of each step its place, the step, the text line that it comes from, the register
 // that it changed, the flags, the clocks so far, and the number that it works on; all numbers at the end, and how it ended.
-use crate::carry::{carried, put_carries};
-use crate::course::{line_of, not_begun, one_more, step_at, whole_run};
-use crate::ending::{put_ending, put_settings};
-use crate::numbers::{count_of, put_longs, put_names, put_value};
-use crate::pen::{
-    BLANK, Pen, at_start, next_field, put, put_byte, put_count, put_decimal, put_field, put_flags,
-    put_hex, put_line, put_right, put_text_line, tab,
-};
-use crate::words::Asked;
+use crate::carry::put_carries;
+use crate::course::{Done, Run, line_of};
+use crate::ending::{Settings, put_ending};
+use crate::numbers::{Number, longs_of, put_numbering};
+use crate::pen::{Bits, Counted, NEWLINE, Pen, TAB};
 use alu::types::Flags;
 use recipes::lines::target;
 use recipes::printer::print_step;
-use recipes::types::{LINES_MAX, Listing, Recipe};
+use recipes::types::Recipe;
+use std::fmt;
 use step::forms::Step;
 use step::runs::Ran;
 
@@ -36,220 +33,132 @@ const NUMBER: usize = 72;
 
 const WORDS: usize = 74;
 
-// The value stands behind the words.
-fn value_column(width: u8) -> usize {
-    WORDS + 1 + 9 * width as usize
-}
+// A recipe's width and lines, and the number of its steps.
+#[derive(Clone, Copy)]
+pub(crate) struct Sizes<'a>(pub &'a Recipe, pub usize);
 
-pub(crate) fn sizes(width: u8, lines: usize, steps: usize) -> Pen {
-    let next = put(at_start(), b"width ");
-    let next = put_decimal(next, width as u64);
-    let next = put_count(next, b", ", lines as u64, b" line");
-    put_count(next, b", ", steps as u64, b" step")
-}
-
-// Which registers the numbers are.
-pub(crate) fn numbering(width: u8) -> Pen {
-    let mut next = put(at_start(), b"numbers: 0 is");
-    next = put_names(next, width, 0);
-    let mut k = 1;
-    while k < count_of(width) {
-        next = put(next, b", ");
-        next = put_decimal(next, k as u64);
-        next = put(next, b" is");
-        next = put_names(next, width, k);
-        k += 1;
+impl fmt::Display for Sizes<'_> {
+    fn fmt<W: fmt::Write>(&self, f: &mut fmt::Formatter<W>) -> fmt::Result {
+        let width = self.0.width;
+        let lines = Counted(self.0.count as u64, "line");
+        let steps = Counted(self.1 as u64, "step");
+        write!(f, "width {width}, {lines}, {steps}")
     }
-    next
 }
 
-fn are_zero(registers: [u32; 8]) -> bool {
-    let mut r = 0;
-    while r < 8 {
-        if registers[r] != 0 {
-            return false;
-        }
-        r += 1;
-    }
-    true
+// The heading of the columns, up to the value's, which stands behind the words.
+const HEADING: &[u8] =
+    b"place  step          line         changed      X N Z V C  clocks  number  words";
+
+fn put_heading(pen: &mut Pen, width: u8) {
+    pen.put(HEADING);
+    pen.tab(WORDS + 1 + 9 * usize::from(width));
+    writeln!(pen, "value");
 }
 
-// A line where an address register is not 0.
-fn put_address(out: &mut [u8], at: usize, a: [u32; 8]) -> usize {
-    if are_zero(a) {
-        return at;
-    }
-    let next = put(at_start(), b"address registers, which no step changes:");
-    put_line(out, at, put_settings(next, b'A', a))
-}
-
-// The heading of the columns.
-fn heading(width: u8) -> Pen {
-    let next = put(
-        at_start(),
-        b"place  step          line         changed      X N Z V C  clocks  number  words",
-    );
-    let next = tab(next, value_column(width));
-    put(next, b"value")
-}
-
-// Number k as it stands: its digit, its words and its value.
-fn put_number(pen: Pen, width: u8, d: [u32; 8], k: u8) -> Pen {
-    let next = put_right(pen, NUMBER, k as u64);
-    let next = tab(next, WORDS - 1);
-    let next = put_longs(next, width, d, k);
-    let next = tab(next, value_column(width));
-    put_value(next, width, d, k)
-}
-
-// All numbers, a row for each; the first row is begun.
-fn put_numbers(out: &mut [u8], at: usize, begun: Pen, width: u8, d: [u32; 8]) -> usize {
-    let mut next = at;
-    let mut pen = begun;
-    let mut k = 0;
-    while k < count_of(width) {
-        next = put_line(out, next, put_number(pen, width, d, k));
-        pen = at_start();
-        k += 1;
-    }
-    next
+// Number k by its digit, its words and its value.
+fn put_number(pen: &mut Pen, k: usize, number: Number) {
+    pen.put_right(NUMBER, k as u64);
+    pen.tab(WORDS - 1);
+    writeln!(pen, "{number}  {}", number.value());
 }
 
 // The flags and the clocks so far.
-fn put_flags_and_clocks(pen: Pen, flags: Flags, clocks: u64) -> Pen {
-    let next = tab(pen, FLAGS - 1);
-    let next = put_flags(next, BLANK, flags);
-    put_right(next, CLOCKS, clocks)
+fn put_flags_and_clocks(pen: &mut Pen, flags: Flags, clocks: u64) {
+    pen.tab(FLAGS - 1);
+    write!(pen, "{}", Bits(' ', flags));
+    pen.put_right(CLOCKS, clocks);
 }
 
-// How a run stands at its start or its end.
-fn put_standing(out: &mut [u8], at: usize, name: &[u8], width: u8, ran: Ran) -> usize {
-    let state = ran.state;
-    let d = state.d;
-    let flags = state.flags;
-    let next = put(at_start(), name);
-    let next = put_flags_and_clocks(next, flags, ran.clocks);
-    put_numbers(out, at, next, width, d)
+// How a run stands at its start or its end: all numbers, a row for each.
+fn put_standing(pen: &mut Pen, name: &str, width: u8, ran: Ran) {
+    write!(pen, "{name}");
+    put_flags_and_clocks(pen, ran.state.flags, ran.clocks);
+    let numbers = ran.state.d.chunks(longs_of(width));
+    for (k, longs) in numbers.enumerate() {
+        put_number(pen, k, Number(longs));
+    }
 }
 
 // A step's fields, from its line as it is printed: the place stands before them.
-fn put_step(pen: Pen, place: usize, step: Step) -> Pen {
+fn put_step(pen: &mut Pen, place: usize, step: Step) {
     let mut line = [0u8; STEP_ROOM];
     print_step(place as u64, step, &mut line);
-    let mut next = put_right(pen, PLACE, place as u64);
-    let mut at = 0;
-    let mut i = 0;
-    while i < 4 {
-        at = next_field(&line, at);
-        next = tab(next, STEP[i]);
-        next = put_field(next, &line, at);
-        i += 1;
+    pen.put_right(PLACE, place as u64);
+    let fields = line.split(|b| matches!(*b, TAB | NEWLINE));
+    for (column, field) in STEP.iter().zip(fields.skip(1)) {
+        pen.tab(*column);
+        pen.put(field);
     }
-    next
-}
-
-// A text line: its number, from 1, and what stands there.
-fn put_text(pen: Pen, text: &[u8], line: u8) -> Pen {
-    let next = put_right(pen, LINE + 2, line as u64);
-    put_text_line(next, text, line)
 }
 
 // The first register that differs, with its new value.
-fn put_changed(pen: Pen, before: [u32; 8], after: [u32; 8]) -> Pen {
-    let next = tab(pen, CHANGED);
-    let mut r = 0;
-    while r < 8 {
-        let value = after[r];
-        if before[r] != value {
-            let next = put_byte(next, b'D');
-            let next = put_decimal(next, r as u64);
-            let next = put_byte(next, BLANK);
-            return put_hex(next, value);
+fn put_changed(pen: &mut Pen, before: &[u32; 8], after: &[u32; 8]) {
+    pen.tab(CHANGED);
+    let mut registers = before.iter().zip(after).enumerate();
+    match registers.find(|(_, (old, new))| old != new) {
+        Some((r, (_, value))) => write!(pen, "D{r} {value:08X}"),
+        None => write!(pen, "-"),
+    }
+}
+
+// What is shown: a run of a recipe, beside its text.
+#[derive(Clone, Copy)]
+pub(crate) struct Shown<'a> {
+    pub text: &'a [u8],
+    pub recipe: &'a Recipe,
+    pub run: Run<'a>,
+}
+
+impl Shown<'_> {
+    // What stands above the start.
+    fn put_top(&self, pen: &mut Pen) {
+        let width = self.recipe.width;
+        writeln!(pen, "{}", Sizes(self.recipe, self.run.listing.len()));
+        put_numbering(pen, width);
+        let a = self.run.asked.state.a;
+        if a != [0; 8] {
+            let set = Settings('A', a);
+            writeln!(pen, "address registers, which no step changes:{set}");
         }
-        r += 1;
+        writeln!(pen);
+        put_heading(pen, width);
     }
-    put_byte(next, b'-')
-}
 
-// The row of a step: `before` has halted at its place, `after` behind it.
-fn row(text: &[u8], recipe: Recipe, made: Listing, before: Ran, after: Ran) -> Pen {
-    let lines = recipe.lines;
-    let old = before.state;
-    let old_d = old.d;
-    let state = after.state;
-    let d = state.d;
-    let flags = state.flags;
-    let step = step_at(made, before.next);
-    let line = lines[line_of(step)];
-    let next = put_step(at_start(), before.next, step);
-    let next = put_text(next, text, step.line);
-    let next = put_changed(next, old_d, d);
-    let next = put_flags_and_clocks(next, flags, after.clocks);
-    put_number(next, recipe.width, d, target(line))
-}
-
-fn put_rows(
-    out: &mut [u8],
-    at: usize,
-    text: &[u8],
-    recipe: Recipe,
-    made: Listing,
-    start: Ran,
-    steps: u32,
-) -> usize {
-    let mut next = at;
-    let mut ran = start;
-    let mut left = steps;
-    while 0 < left {
-        let after = one_more(made, ran);
-        next = put_line(out, next, row(text, recipe, made, ran, after));
-        ran = after;
-        left -= 1;
+    // A text line: its number, from 1, and what stands there.
+    fn put_text(&self, pen: &mut Pen, line: u8) {
+        pen.put_right(LINE + 2, u64::from(line));
+        pen.put_text_line(self.text, line);
     }
-    next
-}
 
-// What stands above the start.
-fn put_top(out: &mut [u8], asked: Asked, recipe: Recipe, steps: usize) -> usize {
-    let width = recipe.width;
-    let state = asked.state;
-    let a = state.a;
-    let next = put_line(out, 0, sizes(width, recipe.count, steps));
-    let next = put_line(out, next, numbering(width));
-    let next = put_address(out, next, a);
-    let next = put_line(out, next, at_start());
-    put_line(out, next, heading(width))
-}
+    // The row of a step.
+    fn put_row(&self, pen: &mut Pen, done: Done) {
+        let step = done.step;
+        let after = done.after;
+        put_step(pen, done.before.next, step);
+        self.put_text(pen, step.line);
+        put_changed(pen, &done.before.state.d, &after.state.d);
+        put_flags_and_clocks(pen, after.state.flags, after.clocks);
+        let k = usize::from(target(self.recipe.lines[line_of(step)]));
+        let mut numbers = after.state.d.chunks(longs_of(self.recipe.width));
+        put_number(pen, k, Number(numbers.nth(k).unwrap_or(&[])));
+    }
 
-// What stands below the steps.
-fn put_bottom(
-    out: &mut [u8],
-    at: usize,
-    text: &[u8],
-    recipe: Recipe,
-    marked: [bool; LINES_MAX],
-    ran: Ran,
-) -> usize {
-    let next = put_standing(out, at, b"end", recipe.width, ran);
-    let next = put_line(out, next, at_start());
-    let next = put_carries(out, next, recipe, marked);
-    put_ending(out, next, text, ran)
-}
+    // What stands below the steps.
+    fn put_bottom(&self, pen: &mut Pen, ran: Ran) {
+        put_standing(pen, "end", self.recipe.width, ran);
+        writeln!(pen);
+        put_carries(pen, self.recipe, self.run);
+        put_ending(pen, self.text, ran);
+    }
 
-// The whole table.
-pub(crate) fn put_run(
-    out: &mut [u8],
-    asked: Asked,
-    text: &[u8],
-    recipe: Recipe,
-    made: Listing,
-) -> usize {
-    let width = recipe.width;
-    let start = not_begun(asked);
-    let ran = whole_run(made, asked);
-    let next = put_top(out, asked, recipe, made.count);
-    let next = put_standing(out, next, b"start", width, start);
-    let next = put_rows(out, next, text, recipe, made, start, ran.steps);
-    let marked = carried(recipe, made, start, ran.steps);
-    put_bottom(out, next, text, recipe, marked, ran)
+    // The whole table.
+    pub(crate) fn put(&self, pen: &mut Pen) {
+        self.put_top(pen);
+        put_standing(pen, "start", self.recipe.width, self.run.not_begun());
+        for done in self.run.steps() {
+            self.put_row(pen, done);
+        }
+        self.put_bottom(pen, self.run.whole());
+    }
 }

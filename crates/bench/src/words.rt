@@ -1,381 +1,231 @@
 // The words that the program is started with, and those of a box's line (boxes.rt).
-ghost use Rattle.std.specs.Prelude.{◌<◌, ◌≤◌};
+ghost use Rattle.std.specs.Prelude.{◌≤◌};
 
-use crate::pen::{at_start, within};
-use crate::slips::put_start;
+use crate::slips::Start;
 use alu::types::Flags;
+use input::{LINE_MAX, failure_line};
 use std::env::{Env, FillError};
-use std::io::Write;
+use std::fmt;
+use std::io::{Error, Write};
 use step::registers::State;
-use text::parts::{first, same};
 
-// The things that a word gives have numbers: those of a box first, which are the registers, the flags and `from`; then `steps`,
-// `rows` and `boxes`, which the program's own words alone give; and one for a word that is not understood. (In contracts
-// below `THINGS` is 26.)
-pub(crate) const OF_A_BOX: usize = 22;
-
-const OF_THE_PROGRAM: usize = 25;
-
-const THINGS: usize = 26;
-
-const BOXES: usize = 24;
-
-// Room for a word; `with_argument` has it written out.
+// Room for a word; `read_words` has it written out.
 pub(crate) const WORD_ROOM: usize = 1024;
 
-// What is asked for: the state to start with, the start place, the steps that may be done, and whether as plain rows.
+// What the program's own words may be beside those of a box.
+const OF_THE_PROGRAM: &str = ", steps=COUNT, rows, boxes=FILE";
+
+// What is asked for: the state to start with, the start place, and the steps that may be done.
 #[derive(Clone, Copy)]
 pub(crate) struct Asked {
     pub state: State,
     pub from: usize,
     pub steps: u32,
-    pub rows: bool,
 }
 
-// All words of the program: `file` is the number of the word that names a file of boxes, 0 where none does.
+// What no word says: all registers 0, all flags clear, from place 0 to the end.
+impl Default for Asked {
+    fn default() -> Self {
+        Asked {
+            state: State {
+                d: [0; 8],
+                a: [0; 8],
+                flags: Flags {
+                    x: false,
+                    n: false,
+                    z: false,
+                    v: false,
+                    c: false,
+                },
+            },
+            from: 0,
+            steps: u32::MAX,
+        }
+    }
+}
+
+// What is printed: a table, plain rows, or a row for each box of the file that a word of the program names, which has this number.
+#[derive(Clone, Copy)]
+pub(crate) enum View {
+    Table,
+    Rows,
+    Boxes(usize),
+}
+
+// All words of the program.
 #[derive(Clone, Copy)]
 pub(crate) struct Words {
     pub asked: Asked,
-    pub file: usize,
-    pub understood: bool,
+    pub view: View,
 }
 
-// How a word was taken: not where it is not understood, or gives a thing that was given before.
-#[derive(Clone, Copy)]
-pub(crate) enum Taking {
-    Taken,
+// Why a word is not taken.
+#[derive(Clone, Copy, PartialEq, Eq)]
+pub(crate) enum NotTaken {
     Unknown,
     Again,
 }
 
-// What the words so far ask for, the things that they gave, and how the last of them was taken.
-#[derive(Clone, Copy)]
-pub(crate) struct Said {
-    pub asked: Asked,
-    pub given: [bool; THINGS],
-    pub last: Taking,
-}
-
-// What one word says. A register comes with its number and its value, a flag with its letter and whether it is set.
-#[derive(Clone, Copy)]
-enum Word {
-    Data(usize, u32),
-    Address(usize, u32),
-    Flag(u8, bool),
-    From(usize),
-    Steps(u32),
-    Rows,
-    Boxes,
-    Unknown,
-}
-
-#[derive(Clone, Copy)]
-enum Decimal {
-    Is(u64),
-    Bad,
-}
-
-#[derive(Clone, Copy)]
-enum Hex {
-    Is(u32),
-    Bad,
-}
-
-// A digit's value; 16 for a byte that is none.
-fn digit(b: u8) -> u8
-    ensures { result ≤ 16 }
-{
-    match b {
-        b'0'..=b'9' => b - b'0',
-        b'A'..=b'F' => b - b'A' + 10,
-        b'a'..=b'f' => b - b'a' + 10,
-        _ => 16,
-    }
-}
-
-// 1 to 10 digits, so that the remainder cuts nothing.
-fn decimal_of(text: &[u8]) -> Decimal {
-    if (text.len() < 1) | (10 < text.len()) {
-        return Decimal::Bad;
-    }
-    let mut value: u64 = 0;
-    let mut i = 0;
-    while i < text.len() {
-        let d = digit(text[i]);
-        if 9 < d {
-            return Decimal::Bad;
+impl fmt::Display for NotTaken {
+    fn fmt<W: fmt::Write>(&self, f: &mut fmt::Formatter<W>) -> fmt::Result {
+        match self {
+            NotTaken::Unknown => write!(f, "is not understood"),
+            NotTaken::Again => write!(f, "is a second word for the same thing: each is given once"),
         }
-        value = value % 1_000_000_000 * 10 + d as u64;
-        i += 1;
     }
-    Decimal::Is(value)
 }
 
-// 1 to 8 digits, so that the remainder cuts nothing.
-fn hex_of(text: &[u8]) -> Hex {
-    if (text.len() < 1) | (8 < text.len()) {
-        return Hex::Bad;
+// What the words of a box give.
+#[derive(Clone, Copy, Default)]
+pub(crate) struct Given {
+    d: [Option<u32>; 8],
+    a: [Option<u32>; 8],
+    x: Option<bool>,
+    n: Option<bool>,
+    z: Option<bool>,
+    v: Option<bool>,
+    c: Option<bool>,
+    from: Option<usize>,
+}
+
+// What the words of the program give. `rows` has no value; `boxes` is the number of the word that names a file.
+#[derive(Clone, Copy, Default)]
+struct Said {
+    box_words: Given,
+    steps: Option<u32>,
+    rows: Option<()>,
+    boxes: Option<usize>,
+}
+
+// Each thing is given once.
+fn give<T: Copy>(thing: &mut Option<T>, value: T) -> Result<(), NotTaken> {
+    if thing.is_some() {
+        return Err(NotTaken::Again);
     }
-    let mut value: u32 = 0;
-    let mut i = 0;
-    while i < text.len() {
-        let d = digit(text[i]);
-        if 15 < d {
-            return Hex::Bad;
+    *thing = Some(value);
+    Ok(())
+}
+
+// A number of 1 to `most` digits, where it fits.
+fn number_of<N: TryFrom<u64>>(text: &[u8], base: u32, most: usize) -> Result<N, NotTaken>
+where
+    N::Error: Drop,
+    requires { (2 ≤ base) × (base ≤ 36) }
+{
+    if text.is_empty() || most < text.len() {
+        return Err(NotTaken::Unknown);
+    }
+    let number = text.iter().try_fold(0u64, |value, b| {
+        let digit = char::from(*b).to_digit(base)?;
+        value
+            .checked_mul(u64::from(base))?
+            .checked_add(u64::from(digit))
+    });
+    let number = number.ok_or(NotTaken::Unknown)?;
+    N::try_from(number).map_err(|_| NotTaken::Unknown)
+}
+
+fn decimal_of<N: TryFrom<u64>>(text: &[u8]) -> Result<N, NotTaken>
+where
+    N::Error: Drop,
+{
+    number_of(text, 10, 10)
+}
+
+fn hex_of(text: &[u8]) -> Result<u32, NotTaken> {
+    number_of(text, 16, 8)
+}
+
+fn flag_of(value: &[u8]) -> Result<bool, NotTaken> {
+    match value {
+        b"0" => Ok(false),
+        b"1" => Ok(true),
+        _ => Err(NotTaken::Unknown),
+    }
+}
+
+// A word's name and its value, which `=` parts.
+fn parted(word: &[u8]) -> Option<(&[u8], &[u8])> {
+    let mark = word.iter().position(|b| *b == b'=')?;
+    Some((&word[..mark], &word[mark + 1..]))
+}
+
+// What the registers hold, of those that are given.
+fn registers(given: [Option<u32>; 8], others: [u32; 8]) -> [u32; 8] {
+    let mut all = others;
+    for (register, value) in all.iter_mut().zip(given) {
+        *register = value.unwrap_or(*register);
+    }
+    all
+}
+
+impl Given {
+    // One word more.
+    pub(crate) fn take(&mut self, word: &[u8]) -> Result<(), NotTaken> {
+        let (name, value) = parted(word).ok_or(NotTaken::Unknown)?;
+        match name {
+            b"from" => give(&mut self.from, decimal_of(value)?),
+            b"X" => give(&mut self.x, flag_of(value)?),
+            b"N" => give(&mut self.n, flag_of(value)?),
+            b"Z" => give(&mut self.z, flag_of(value)?),
+            b"V" => give(&mut self.v, flag_of(value)?),
+            b"C" => give(&mut self.c, flag_of(value)?),
+            [b'D', r @ b'0'..=b'7'] => give(&mut self.d[(*r - b'0') as usize], hex_of(value)?),
+            [b'A', r @ b'0'..=b'7'] => give(&mut self.a[(*r - b'0') as usize], hex_of(value)?),
+            _ => Err(NotTaken::Unknown),
         }
-        value = value % 0x1000_0000 * 16 + d as u32;
-        i += 1;
     }
-    Hex::Is(value)
-}
 
-fn from_word(value: &[u8]) -> Word {
-    match decimal_of(value) {
-        Decimal::Is(place) => Word::From(place as usize),
-        Decimal::Bad => Word::Unknown,
-    }
-}
-
-fn steps_word(value: &[u8]) -> Word {
-    let Decimal::Is(count) = decimal_of(value) else {
-        return Word::Unknown;
-    };
-    if 0xffff_ffff < count {
-        return Word::Unknown;
-    }
-    Word::Steps(count as u32)
-}
-
-// The file's name is taken from the word itself, where it is wanted.
-fn boxes_word(name: &[u8]) -> Word {
-    if name.len() == 0 {
-        return Word::Unknown;
-    }
-    Word::Boxes
-}
-
-fn is_flag(name: u8) -> bool {
-    (name == b'X') | (name == b'N') | (name == b'Z') | (name == b'V') | (name == b'C')
-}
-
-fn flag_word(name: u8, value: &[u8]) -> Word {
-    if !is_flag(name) {
-        return Word::Unknown;
-    }
-    if same(value, b"0") {
-        return Word::Flag(name, false);
-    }
-    if same(value, b"1") {
-        return Word::Flag(name, true);
-    }
-    Word::Unknown
-}
-
-fn register_word(kind: u8, r: u8, value: &[u8]) -> Word {
-    let Hex::Is(v) = hex_of(value) else {
-        return Word::Unknown;
-    };
-    let k = digit(r);
-    if 7 < k {
-        return Word::Unknown;
-    }
-    if kind == b'D' {
-        return Word::Data(k as usize, v);
-    }
-    if kind == b'A' {
-        return Word::Address(k as usize, v);
-    }
-    Word::Unknown
-}
-
-fn read_word(word: &[u8]) -> Word {
-    if same(word, b"rows") {
-        return Word::Rows;
-    }
-    let mark = first(word, b'=');
-    if word.len() <= mark {
-        return Word::Unknown;
-    }
-    let name = &word[..mark];
-    let value = &word[mark + 1..];
-    if same(name, b"from") {
-        return from_word(value);
-    }
-    if same(name, b"steps") {
-        return steps_word(value);
-    }
-    if same(name, b"boxes") {
-        return boxes_word(value);
-    }
-    if name.len() == 1 {
-        return flag_word(name[0], value);
-    }
-    if name.len() == 2 {
-        return register_word(name[0], name[1], value);
-    }
-    Word::Unknown
-}
-
-// The number of a flag among the things.
-fn flag_thing(name: u8) -> usize
-    ensures { result < 26 }
-{
-    match name {
-        b'X' => 16,
-        b'N' => 17,
-        b'Z' => 18,
-        b'V' => 19,
-        _ => 20,
+    // What is asked for; what no word gives is asked for already.
+    pub(crate) fn behind(&self, asked: Asked) -> Asked {
+        let State { d, a, flags } = asked.state;
+        Asked {
+            state: State {
+                d: registers(self.d, d),
+                a: registers(self.a, a),
+                flags: Flags {
+                    x: self.x.unwrap_or(flags.x),
+                    n: self.n.unwrap_or(flags.n),
+                    z: self.z.unwrap_or(flags.z),
+                    v: self.v.unwrap_or(flags.v),
+                    c: self.c.unwrap_or(flags.c),
+                },
+            },
+            from: self.from.unwrap_or(asked.from),
+            steps: asked.steps,
+        }
     }
 }
 
-// The number of the thing that a word gives.
-fn thing(word: Word) -> usize
-    ensures { result < 26 }
-{
-    match word {
-        Word::Data(r, _) => r % 8,
-        Word::Address(r, _) => 8 + r % 8,
-        Word::Flag(name, _) => flag_thing(name),
-        Word::From(_) => 21,
-        Word::Steps(_) => 22,
-        Word::Rows => 23,
-        Word::Boxes => BOXES,
-        Word::Unknown => OF_THE_PROGRAM,
+impl Said {
+    // Word i of the program.
+    fn take(&mut self, i: usize, word: &[u8]) -> Result<(), NotTaken> {
+        if word == b"rows".as_slice() {
+            return give(&mut self.rows, ());
+        }
+        match parted(word) {
+            Some((b"steps", count)) => give(&mut self.steps, decimal_of(count)?),
+            Some((b"boxes", [_, ..])) => give(&mut self.boxes, i),
+            _ => self.box_words.take(word),
+        }
     }
-}
 
-fn written(registers: [u32; 8], r: usize, value: u32) -> [u32; 8] {
-    let mut changed = registers;
-    if r < 8 {
-        changed[r] = value;
+    fn asked(&self) -> Asked {
+        let all = Asked::default();
+        Asked {
+            steps: self.steps.unwrap_or(all.steps),
+            ..self.box_words.behind(all)
+        }
     }
-    changed
-}
 
-fn either(new: bool, value: bool, old: bool) -> bool {
-    if new { value } else { old }
-}
-
-fn with_data(state: State, r: usize, value: u32) -> State {
-    let d = state.d;
-    let a = state.a;
-    let flags = state.flags;
-    State {
-        d: written(d, r, value),
-        a,
-        flags,
-    }
-}
-
-fn with_address(state: State, r: usize, value: u32) -> State {
-    let d = state.d;
-    let a = state.a;
-    let flags = state.flags;
-    State {
-        d,
-        a: written(a, r, value),
-        flags,
-    }
-}
-
-fn with_flag(state: State, name: u8, value: bool) -> State {
-    let d = state.d;
-    let a = state.a;
-    let old = state.flags;
-    let flags = Flags {
-        x: either(name == b'X', value, old.x),
-        n: either(name == b'N', value, old.n),
-        z: either(name == b'Z', value, old.z),
-        v: either(name == b'V', value, old.v),
-        c: either(name == b'C', value, old.c),
-    };
-    State { d, a, flags }
-}
-
-fn asking(state: State, from: usize, steps: u32, rows: bool) -> Asked {
-    Asked {
-        state,
-        from,
-        steps,
-        rows,
-    }
-}
-
-// What no word says: all registers 0, all flags clear, from place 0 to the end, as a table.
-fn unasked() -> Asked {
-    let flags = Flags {
-        x: false,
-        n: false,
-        z: false,
-        v: false,
-        c: false,
-    };
-    let state = State {
-        d: [0; 8],
-        a: [0; 8],
-        flags,
-    };
-    asking(state, 0, 0xffff_ffff, false)
-}
-
-// What is asked for with one word more.
-fn with_word(asked: Asked, word: Word) -> Asked {
-    let state = asked.state;
-    let from = asked.from;
-    let steps = asked.steps;
-    let rows = asked.rows;
-    match word {
-        Word::Data(r, value) => asking(with_data(state, r, value), from, steps, rows),
-        Word::Address(r, value) => asking(with_address(state, r, value), from, steps, rows),
-        Word::Flag(name, value) => asking(with_flag(state, name, value), from, steps, rows),
-        Word::From(place) => asking(state, place, steps, rows),
-        Word::Steps(count) => asking(state, from, count, rows),
-        Word::Rows => asking(state, from, steps, true),
-        Word::Boxes => asked,
-        Word::Unknown => asked,
-    }
-}
-
-// No word yet, behind what is asked for already.
-pub(crate) fn unsaid(asked: Asked) -> Said {
-    Said {
-        asked,
-        given: [false; THINGS],
-        last: Taking::Taken,
-    }
-}
-
-fn how_taken(known: bool, given: bool) -> Taking {
-    if !known {
-        return Taking::Unknown;
-    }
-    if given {
-        return Taking::Again;
-    }
-    Taking::Taken
-}
-
-pub(crate) fn is_taken(last: Taking) -> bool {
-    if let Taking::Taken = last {
-        true
-    } else {
-        false
-    }
-}
-
-// One word more, of those that give one of the first `things`.
-pub(crate) fn with_text(said: Said, text: &[u8], things: usize) -> Said {
-    let asked = said.asked;
-    let mut given = said.given;
-    let word = read_word(text);
-    let k = thing(word);
-    let last = how_taken(k < things, given[k]);
-    given[k] = true;
-    Said {
-        asked: with_word(asked, word),
-        given,
-        last,
+    // Plain rows are of one run, so that they do not go with boxes.
+    fn view(&self) -> Option<View> {
+        match (self.rows, self.boxes) {
+            (None, None) => Some(View::Table),
+            (None, Some(i)) => Some(View::Boxes(i)),
+            (Some(()), None) => Some(View::Rows),
+            (Some(()), Some(_)) => None,
+        }
     }
 }
 
@@ -384,94 +234,52 @@ pub(crate) fn tell<W: Write>(to: &mut W, text: &[u8]) {
     let _ = to.write_all(text);
 }
 
-// A word made visible, as a refused line is.
-fn tell_seen<W: Write>(to: &mut W, text: &[u8]) {
-    let pen = put_start(at_start(), text);
-    let line = pen.line;
-    let n = within(pen.at, &line);
+// What failed, as `what` names it, and why.
+pub(crate) fn tell_failed<W: Write>(to: &mut W, what: &[u8], error: Error) {
+    let mut line = [0u8; LINE_MAX];
+    let n = failure_line(&mut line, what, error);
     tell(to, &line[..n]);
 }
 
-// Says why a word was not taken. Where it stands is said before.
-pub(crate) fn report<W: Write>(to: &mut W, text: &[u8], last: Taking, things: usize) {
-    tell_seen(to, text);
-    if let Taking::Again = last {
-        tell(
+// Says why a word was not taken, which is made visible as a refused line is, and what may stand there beside the words of a
+// box. Where it stands is said before.
+pub(crate) fn report<W: Write>(to: &mut W, word: &[u8], why: NotTaken, others: &str) {
+    let _ = write!(to, "{} {why}", Start(word));
+    if why == NotTaken::Unknown {
+        let _ = write!(
             to,
-            b" is a second word for the same thing: each is given once\n",
+            ": D0=HEX..D7=HEX, A0=HEX..A7=HEX, X= N= Z= V= C= 0 or 1, from=PLACE{others}"
         );
-        return;
-    }
-    tell(
-        to,
-        b" is not understood: D0=HEX..D7=HEX, A0=HEX..A7=HEX, X= N= Z= V= C= 0 or 1, from=PLACE",
-    );
-    if OF_A_BOX < things {
-        tell(to, b", steps=COUNT, rows, boxes=FILE");
     }
     tell(to, b"\n");
 }
 
-// One word of the program more. One that is not taken is reported.
-fn with_told<W: Write>(to: &mut W, said: Said, text: &[u8]) -> Said {
-    let next = with_text(said, text, OF_THE_PROGRAM);
-    let last = next.last;
-    if !is_taken(last) {
-        tell(to, b"bench: ");
-        report(to, text, last, OF_THE_PROGRAM);
+// All words; reading ends at the first that is not taken, which is reported. Word 0 is the program's own name.
+pub(crate) fn read_words<E: Env, W: Write>(env: &E, to: &mut W) -> Option<Words> {
+    let mut said = Said::default();
+    for i in 1..usize::MAX {
+        let mut buffer = [0u8; WORD_ROOM];
+        let word: &[u8] = match env.arg(i, &mut buffer) {
+            Ok(n) => &buffer[..n],
+            // What is said of one that is too long is no word either.
+            Err(FillError::TooLong) => b"a word of more than 1024 bytes",
+            Err(FillError::NotPresent) => break,
+        };
+        if let Err(why) = said.take(i, word) {
+            tell(to, b"bench: ");
+            report(to, word, why, OF_THE_PROGRAM);
+            return None;
+        }
     }
-    next
-}
-
-// Word i of the program more, where there is one. What is said of one that is too long is no word either.
-fn with_argument<E: Env, W: Write>(env: &E, to: &mut W, said: Said, i: usize) -> Option<Said> {
-    let mut buffer = [0u8; WORD_ROOM];
-    match env.arg(i, &mut buffer) {
-        Ok(n) => Some(with_told(to, said, &buffer[..n])),
-        Err(FillError::TooLong) => Some(with_told(to, said, b"a word of more than 1024 bytes")),
-        Err(FillError::NotPresent) => None,
-    }
-}
-
-// All words were taken. Plain rows are of one run, so that they do not go with boxes.
-fn judged<W: Write>(to: &mut W, asked: Asked, file: usize) -> Words {
-    let both = asked.rows & (0 < file);
-    if both {
+    let Some(view) = said.view() else {
         tell(
             to,
             b"bench: rows is not understood with boxes=FILE: it shows one run\n",
         );
-    }
-    Words {
-        asked,
-        file,
-        understood: !both,
-    }
-}
-
-// All words; reading ends at the first that is not taken. Word 0 is the program's own name.
-pub(crate) fn read_words<E: Env, W: Write>(env: &E, to: &mut W) -> Words {
-    let mut said = unsaid(unasked());
-    let mut file = 0;
-    for i in 1..usize::MAX {
-        let Some(next) = with_argument(env, to, said, i) else {
-            break;
-        };
-        said = next;
-        let last = said.last;
-        let given = said.given;
-        if !is_taken(last) {
-            let asked = said.asked;
-            return Words {
-                asked,
-                file,
-                understood: false,
-            };
-        }
-        if given[BOXES] & (file == 0) {
-            file = i;
-        }
-    }
-    let asked = said.asked;
-    judged(to, asked, file)
+        return None;
+    };
+    Some(Words {
+        asked: said.asked(),
+        view,
+    })
 }

@@ -10,7 +10,7 @@ use Rattle.alu.specs.declared.types.Flags.{Flags}
 use Rattle.alu.specs.declared.types.Verdict.TheVariants.{NoSuchSize}
 use Rattle.alu.specs.declared.types.Checked.{Checked}
 use Rattle.alu.specs.Answers.{refused}
-use Rattle.calls.specs.declared.Found.{Found}
+use Rattle.std.specs.Prelude.{Option}
 use Rattle.calls.specs.Packed.{Row, number_in, done, chosen, answer_of, packed, plain}
 
 -- the operation whose number is `key`
@@ -36,5 +36,5 @@ missed (row ∷ rest) op size s d f t =
 
 -- a size by its number, which may name none
 pub called :
-    (of : Found → Checked) {r : ℕ} {size size' found : Found} → found ≡ size → found ≡ size' → r ≡ packed (of size) → r ≡ packed (of size')
+    (of : Option Size → Checked) {r : ℕ} {size size' found : Option Size} → found ≡ size → found ≡ size' → r ≡ packed (of size) → r ≡ packed (of size')
 called of is z gave = rw (← z, is) gave

@@ -27,8 +27,7 @@ use Rattle.alu.proofs.Bounds.{number_le, class_le}
 use Rattle.alu.proofs.Figures.{size_small, unless_small, shift_small, bit_small, chk_small}
 use Rattle.alu.proofs.Codes.{ccr_le, flags_back}
 use Rattle.alu.proofs.Masked.{hands_back, results}
-use Rattle.calls.specs.declared.Found.{Found}
-use Rattle.calls.specs.declared.Found.TheVariants.{Is, NoSize}
+use Rattle.std.specs.Prelude.{Option, Some, None}
 use Rattle.calls.specs.Packed.{Row, two, check, operations, number_in, done, chosen, answer_of, asked_of, call_of, size_of, packed}
 
 -- ---- what an operation answers fits its place: the figure, and the result where the destination d has 32 bits
@@ -182,9 +181,9 @@ unpacked k r c =
       class = part_4 a.result (ccr_of a.flags) a.clocks (number_of a.verdict) (class_of k.check) r f c v (class_le k.check);
     })
 
-asked_fits : (op : ℕ) (found : Found) (s d : ℕ) (f : Flags) → FitsFrom d (asked_of op found s d f)
-asked_fits op (Is size) s d f = answer_fits op size s d f
-asked_fits op NoSize s d f = (lit< tt, λ h. lit< tt)
+asked_fits : (op : ℕ) (found : Option Size) (s d : ℕ) (f : Flags) → FitsFrom d (asked_of op found s d f)
+asked_fits op (Some size) s d f = answer_fits op size s d f
+asked_fits op None s d f = (lit< tt, λ h. lit< tt)
 
 pub call_reads : (op size s d ccr : ℕ) → d < 2 ^ 32 → Reads (asked_of op (size_of size) s d (flags_of ccr)) (call_of op size s d ccr)
 call_reads op size s d ccr h =

@@ -1,6 +1,6 @@
 -- The packed form of a request and of an answer: numbers for a caller in another language.
 -- Assumes nothing.
-use Rattle.std.specs.Prelude.{ℕ, ◌+◌, ◌*◌, ◌%◌, ◌^◌, cond, List, [], ◌∷◌, eqb}
+use Rattle.std.specs.Prelude.{ℕ, ◌+◌, ◌*◌, ◌%◌, ◌^◌, cond, List, [], ◌∷◌, eqb, Option, Some, None}
 use Rattle.alu.specs.declared.types.Size.{Size}
 use Rattle.alu.specs.declared.types.Size.TheVariants.{Byte, Word, Long}
 use Rattle.alu.specs.declared.types.Flags.{Flags}
@@ -8,8 +8,6 @@ use Rattle.alu.specs.declared.types.Verdict.TheVariants.{NoSuchSize}
 use Rattle.alu.specs.declared.types.Answer.{Answer}
 use Rattle.alu.specs.declared.types.Check.TheVariants.{Pass}
 use Rattle.alu.specs.declared.types.Checked.{Checked}
-use Rattle.calls.specs.declared.Found.{Found}
-use Rattle.calls.specs.declared.Found.TheVariants.{Is, NoSize}
 use Rattle.alu.specs.ConditionCodes.{flags_of, ccr_of}
 use Rattle.alu.specs.Answers.{number_of, class_of, refused}
 use Rattle.alu.specs.declared.shift_rotate.ShiftOp.TheVariants.{Asl, Asr, Lsl, Lsr, Rol, Ror, Roxl, Roxr}
@@ -20,8 +18,8 @@ use Rattle.alu.specs.Shifts.{shift_of}
 use Rattle.alu.specs.Bitops.{bitop_of}
 
 -- the sizes by number: 0 byte, 1 word, 2 long; a greater number names none
-abbrev pub size_of : ℕ → Found
-size_of k = cond (eqb k 0) (Is Byte) (cond (eqb k 1) (Is Word) (cond (eqb k 2) (Is Long) NoSize))
+abbrev pub size_of : ℕ → Option Size
+size_of k = cond (eqb k 0) (Some Byte) (cond (eqb k 1) (Some Word) (cond (eqb k 2) (Some Long) None))
 
 -- the answer: the result in bits 0 to 31, the flags in 32 to 36 (`ccr_of`), the low 8 bits of the clock figure in 40 to 47 (all of it: `answer_fits`
 -- of proofs/Unpacked), the refusal number in 48 and 49, CHK's class in 52 and 53; all other bits are 0
@@ -99,9 +97,9 @@ abbrev pub answer_of : (op : ℕ) → Size → (s d : ℕ) → Flags → Checked
 answer_of op size s d f = chosen operations op size s d f
 
 -- the same where the size may be none: refused with 2, before anything else is looked at
-abbrev pub asked_of : (op : ℕ) → Found → (s d : ℕ) → Flags → Checked
-asked_of op (Is size) s d f = answer_of op size s d f
-asked_of op NoSize s d f = plain (refused NoSuchSize f)
+abbrev pub asked_of : (op : ℕ) → Option Size → (s d : ℕ) → Flags → Checked
+asked_of op (Some size) s d f = answer_of op size s d f
+asked_of op None s d f = plain (refused NoSuchSize f)
 
 abbrev pub call_of : (op size s d ccr : ℕ) → ℕ
 call_of op size s d ccr = packed (asked_of op (size_of size) s d (flags_of ccr))

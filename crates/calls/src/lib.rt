@@ -4,7 +4,6 @@
 
 ghost use Rattle.std.specs.Prelude.{◌≡◌, ◌^◌, ◌<◌, ◌≤◌};
 ghost use Rattle.alu.specs.ConditionCodes.{flags_of};
-ghost use Rattle.alu.specs.Answers.{number_of, class_of};
 ghost use Rattle.calls.specs.Packed.{size_of, packed, plain, answer_of, call_of};
 
 use alu::bit_manip::{exec_bchg, exec_bclr, exec_bset, exec_btst};
@@ -16,59 +15,37 @@ use alu::integer_arith::{
 use alu::shift_rotate::{
     exec_asl, exec_asr, exec_lsl, exec_lsr, exec_rol, exec_ror, exec_roxl, exec_roxr,
 };
-use alu::types::{Answer, Check, Checked, Size, Verdict, ccr, class, flags_of, number, refused};
+use alu::types::{Answer, Checked, Flags, Size, Verdict};
 
-// A size by its number, if it names one.
-#[derive(Clone, Copy)]
-enum Found {
-    Is(Size),
-    NoSize,
-}
-
-// One `match` with a default of its own: the compiler then sees that a size and its number are the same.
-fn size_of(number: u8) -> Found
+// A size by its number, if it names one. One `match` with a default of its own: the compiler then sees that a size and its number are the same.
+fn size_of(number: u8) -> Option<Size>
     ensures { result ≡ size_of number }
 {
     match number {
-        0 => Found::Is(Size::Byte),
-        1 => Found::Is(Size::Word),
-        2 => Found::Is(Size::Long),
-        _ => Found::NoSize,
+        0 => Some(Size::Byte),
+        1 => Some(Size::Word),
+        2 => Some(Size::Long),
+        _ => None,
     }
 }
 
-// The refusal number and CHK's class, with the bounds that keep the packed sum within 64 bits.
-fn number_of(verdict: Verdict) -> u64
-    ensures { (result ≡ number_of verdict) × (result ≤ 2) }
-{
-    number(verdict) as u64
-}
-
-fn class_of(check: Check) -> u64
-    ensures { (result ≡ class_of check) × (result ≤ 3) }
-{
-    class(check) as u64
-}
-
 // The result, then the flags from bit 32, the figure from bit 40, the refusal number from bit 48.
+#[tactic(auto, using(alu::proofs::Bounds::number_le))]
 fn pack(a: Answer) -> u64
     ensures { (result ≡ packed (plain a)) × (result < 2 ^ 52) }
 {
-    let flags = a.flags;
-    let verdict = a.verdict;
-    a.result as u64
-        + ccr(flags) as u64 * 0x1_0000_0000
-        + (a.clocks % 0x100) as u64 * 0x100_0000_0000
-        + number_of(verdict) * 0x1_0000_0000_0000
+    u64::from(a.result)
+        + u64::from(u8::from(a.flags)) * 0x1_0000_0000
+        + u64::from(a.clocks % 0x100) * 0x100_0000_0000
+        + u64::from(u32::from(a.verdict)) * 0x1_0000_0000_0000
 }
 
 // CHK has its class beside the answer: from bit 52.
+#[tactic(auto, using(alu::proofs::Bounds::class_le))]
 fn pack_checked(checked: Checked) -> u64
     ensures { result ≡ packed checked }
 {
-    let check = checked.check;
-    let answer = checked.answer;
-    pack(answer) + class_of(check) * 0x10_0000_0000_0000
+    pack(checked.answer) + u64::from(u32::from(checked.check)) * 0x10_0000_0000_0000
 }
 
 // The operation of that number, its answer packed. Each arm unpacks and packs by itself: the compiler then leaves out
@@ -78,37 +55,37 @@ fn answer(op: u8, size: Size, src: u32, dst: u32, ccr: u8) -> u64
     ensures { result ≡ packed (answer_of op size src dst (flags_of ccr)) }
 {
     match op {
-        0x00 => pack(exec_add(size, src, dst, flags_of(ccr))),
-        0x01 => pack(exec_sub(size, src, dst, flags_of(ccr))),
-        0x02 => pack(exec_cmp(size, src, dst, flags_of(ccr))),
-        0x03 => pack(exec_addx(size, src, dst, flags_of(ccr))),
-        0x04 => pack(exec_subx(size, src, dst, flags_of(ccr))),
-        0x05 => pack(exec_adda(size, src, dst, flags_of(ccr))),
-        0x06 => pack(exec_suba(size, src, dst, flags_of(ccr))),
-        0x07 => pack(exec_cmpa(size, src, dst, flags_of(ccr))),
-        0x08 => pack(exec_addq(size, src, dst, flags_of(ccr))),
-        0x09 => pack(exec_subq(size, src, dst, flags_of(ccr))),
-        0x0a => pack(exec_addq_address(size, src, dst, flags_of(ccr))),
-        0x0b => pack(exec_subq_address(size, src, dst, flags_of(ccr))),
-        0x0c => pack(exec_clr(size, flags_of(ccr))),
-        0x0d => pack(exec_neg(size, dst, flags_of(ccr))),
-        0x0e => pack(exec_negx(size, dst, flags_of(ccr))),
-        0x0f => pack(exec_not(size, dst, flags_of(ccr))),
-        0x10 => pack(exec_ext(size, dst, flags_of(ccr))),
-        0x11 => pack(exec_asl(size, src, dst, flags_of(ccr))),
-        0x12 => pack(exec_asr(size, src, dst, flags_of(ccr))),
-        0x13 => pack(exec_lsl(size, src, dst, flags_of(ccr))),
-        0x14 => pack(exec_lsr(size, src, dst, flags_of(ccr))),
-        0x15 => pack(exec_rol(size, src, dst, flags_of(ccr))),
-        0x16 => pack(exec_ror(size, src, dst, flags_of(ccr))),
-        0x17 => pack(exec_roxl(size, src, dst, flags_of(ccr))),
-        0x18 => pack(exec_roxr(size, src, dst, flags_of(ccr))),
-        0x19 => pack(exec_btst(size, src, dst, flags_of(ccr))),
-        0x1a => pack(exec_bset(size, src, dst, flags_of(ccr))),
-        0x1b => pack(exec_bclr(size, src, dst, flags_of(ccr))),
-        0x1c => pack(exec_bchg(size, src, dst, flags_of(ccr))),
-        0x1d => pack_checked(exec_chk(size, src, dst, flags_of(ccr))),
-        _ => pack(refused(Verdict::NoSuchSize, flags_of(ccr))),
+        0x00 => pack(exec_add(size, src, dst, Flags::from(ccr))),
+        0x01 => pack(exec_sub(size, src, dst, Flags::from(ccr))),
+        0x02 => pack(exec_cmp(size, src, dst, Flags::from(ccr))),
+        0x03 => pack(exec_addx(size, src, dst, Flags::from(ccr))),
+        0x04 => pack(exec_subx(size, src, dst, Flags::from(ccr))),
+        0x05 => pack(exec_adda(size, src, dst, Flags::from(ccr))),
+        0x06 => pack(exec_suba(size, src, dst, Flags::from(ccr))),
+        0x07 => pack(exec_cmpa(size, src, dst, Flags::from(ccr))),
+        0x08 => pack(exec_addq(size, src, dst, Flags::from(ccr))),
+        0x09 => pack(exec_subq(size, src, dst, Flags::from(ccr))),
+        0x0a => pack(exec_addq_address(size, src, dst, Flags::from(ccr))),
+        0x0b => pack(exec_subq_address(size, src, dst, Flags::from(ccr))),
+        0x0c => pack(exec_clr(size, Flags::from(ccr))),
+        0x0d => pack(exec_neg(size, dst, Flags::from(ccr))),
+        0x0e => pack(exec_negx(size, dst, Flags::from(ccr))),
+        0x0f => pack(exec_not(size, dst, Flags::from(ccr))),
+        0x10 => pack(exec_ext(size, dst, Flags::from(ccr))),
+        0x11 => pack(exec_asl(size, src, dst, Flags::from(ccr))),
+        0x12 => pack(exec_asr(size, src, dst, Flags::from(ccr))),
+        0x13 => pack(exec_lsl(size, src, dst, Flags::from(ccr))),
+        0x14 => pack(exec_lsr(size, src, dst, Flags::from(ccr))),
+        0x15 => pack(exec_rol(size, src, dst, Flags::from(ccr))),
+        0x16 => pack(exec_ror(size, src, dst, Flags::from(ccr))),
+        0x17 => pack(exec_roxl(size, src, dst, Flags::from(ccr))),
+        0x18 => pack(exec_roxr(size, src, dst, Flags::from(ccr))),
+        0x19 => pack(exec_btst(size, src, dst, Flags::from(ccr))),
+        0x1a => pack(exec_bset(size, src, dst, Flags::from(ccr))),
+        0x1b => pack(exec_bclr(size, src, dst, Flags::from(ccr))),
+        0x1c => pack(exec_bchg(size, src, dst, Flags::from(ccr))),
+        0x1d => pack_checked(exec_chk(size, src, dst, Flags::from(ccr))),
+        _ => pack(Answer::refused(Verdict::NoSuchSize, Flags::from(ccr))),
     }
 }
 
@@ -116,9 +93,8 @@ fn answer(op: u8, size: Size, src: u32, dst: u32, ccr: u8) -> u64
 pub fn alu_call(op: u8, size: u8, src: u32, dst: u32, ccr: u8) -> u64
     ensures { result ≡ call_of op size src dst ccr }
 {
-    let Found::Is(sized) = size_of(size) else {
-        let none = refused(Verdict::NoSuchSize, flags_of(ccr));
-        return pack(none);
+    let Some(sized) = size_of(size) else {
+        return pack(Answer::refused(Verdict::NoSuchSize, Flags::from(ccr)));
     };
     answer(op, sized, src, dst, ccr)
 }

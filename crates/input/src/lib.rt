@@ -6,10 +6,10 @@ ghost use Rattle.io.specs.Counts.{IsPrefixLen};
 
 use std::io::{Error, Read, Write};
 use text::parts::first;
-use text::writers::{put_byte, put_bytes};
+use text::writers::Writer;
 
 // A read failed, with so many bytes read before it.
-#[derive(Clone, Copy, Debug)]
+#[derive(Clone, Copy)]
 pub struct ReadFailed {
     pub n: usize,
     pub error: Error,
@@ -54,8 +54,10 @@ pub fn failure_line(line: &mut [u8; LINE_MAX], what: &[u8], error: Error) -> usi
     let mut rest: &mut [u8] = &mut room;
     let _ = write!(rest, "{error}");
     let n = words_end(&room);
-    let named = put_bytes(line, 0, what);
-    let parted = put_bytes(line, named, b": ");
-    let told = put_bytes(line, parted, &room[..n]);
-    put_byte(line, told, b'\n')
+    let mut w = Writer { out: line, at: 0 };
+    w.bytes(what);
+    w.bytes(b": ");
+    w.bytes(&room[..n]);
+    w.byte(b'\n');
+    w.at
 }

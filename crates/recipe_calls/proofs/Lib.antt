@@ -1,6 +1,5 @@
 -- What the proofs of several functions use, and the laws of the contracts.
 mod Naming
-mod Turns
 pub mod Racking
 mod Telling
 pub mod Round

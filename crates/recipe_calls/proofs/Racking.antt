@@ -2,14 +2,18 @@
 --     sets_at, sets_many        the register set of a box, and how many there are
 --     Filled                    a row of which the first boxes have what their runs leave, eight words to each: `filled_none` before the loop, `filled_next` a
 --                               turn, `filled_rest` what a turn reads, `filled_all` behind the loop
---     After                     the rows of a rack after so many boxes: `after_none`, `after_next`, `after_length`, `after_all`
+--     After                     the rows of a rack after so many boxes: `after_none`, `after_next`, `after_all`
 --     room_in                   a row has eight words for each box
 --     rack_single               each box of a rack is what `listing_run` leaves of it, and tells
 use Prim.Native.Nat.{ℕ, zero, suc, ◌+◌, ◌*◌, ◌/◌, ◌≤◌, ◌<◌, min}
 use mathlib.Core.Path.{◌≡◌, refl, sym, ap, ap₂, subst, subst⁻¹, ◌∙◌}
-use mathlib.Core.List.{List, [], ◌∷◌, ◌++◌, map, append_assoc, append-nil}
+use mathlib.Core.List.{List, [], ◌∷◌, ◌++◌, map, append_assoc}
 use native.Mathlib.Omega.{arith}
 use lib.ListN.{length, take, drop, get_or, set, length-append, length-drop, length-map, get_or-map}
+use Rattle.std.specs.Prelude.{Ok, Err, IsOk}
+use Rattle.std.specs.Result.{result_unwrap_or}
+use Rattle.std.specs.List.{flat_map}
+use Rattle.std.proofs.lemmas.Grind.{common_steps}
 use lib.Seq.{take_all, length-take-le, take-append_seam, drop-append_seam, drop-append-add, drop-drop, take_at, paste}
 use Rattle.alu.specs.ConditionCodes.{ccr_of}
 use Rattle.step.specs.declared.registers.State.{State}
@@ -20,15 +24,13 @@ use Rattle.step.specs.declared.runs.End.{End}
 use Rattle.step.specs.declared.runs.End.TheVariants.{Finished, Budget, Trapped, Refused}
 use Rattle.step.specs.Run.{ends, run_of, end_numbers}
 use Rattle.step.specs.Lent.{over}
-use Rattle.step.specs.declared.racks.Racked.{Racked}
-use Rattle.step.specs.declared.racks.Fit.TheVariants.{Fits}
-use Rattle.step.specs.Rack.{fit_number, plan_of, runs_of}
-use Rattle.step.proofs.Rows.{over_length, over_put, over_before, over_past}
-use Rattle.step.proofs.Boxes.{plan_fits, plan_fitting, first_many, first_at_lem}
+use Rattle.step.specs.Rack.{Plan, boxes_of, plan_of, runs_of}
+use Rattle.step.proofs.Rows.{over_put, over_before, over_past}
+use Rattle.step.proofs.Boxes.{Within, plan_fits, plan_fitting, plan_within, first_many, first_at_lem}
 use Rattle.step.proofs.Kept.{AsMany, step_kept, run_kept}
 use Rattle.recipe_calls.specs.Words.{first_of}
-use Rattle.recipe_calls.specs.Calls.{StateLeft, state_of, state_left, ran_told, ran_left, run_words, sets_of, joined, rack_left, rack_by, rack_words}
-use Rattle.recipe_calls.specs.Boxes.{eight_at, box_state, BoxPut}
+use Rattle.recipe_calls.specs.Calls.{StateLeft, state_of, state_left, ran_told, ran_left, run_words, sets_of, rack_left, rack_told, rack_by, rack_words}
+use Rattle.recipe_calls.specs.Boxes.{eight_at, eight_put, box_state, BoxPut}
 
 -- ---- the register sets
 
@@ -47,14 +49,12 @@ sets_at d a (f ∷ flags) (suc i) s h =
 
 -- ---- a row that is filled box by box
 
-joined_next : (g : Ran → List ℕ) (rs : List Ran) (i : ℕ) (d : Ran) → i < length rs → joined g (take (suc i) rs) ≡ joined g (take i rs) ++ g (get_or rs i d)
-joined_next g [] i d h = absurd (omega arith)
-joined_next g (r ∷ rs) zero d h = append-nil (g r)
-joined_next g (r ∷ rs) (suc i) d h = ap (λ (more : List ℕ). g r ++ more) (joined_next g rs i d (omega arith)) ∙ sym (append_assoc (g r) (joined g (take i rs)) (g (get_or rs i d)))
+filled_more : (g : Ran → List ℕ) (rs : List Ran) (i : ℕ) (d : Ran) → i < length rs → flat_map g (take (i + 1) rs) ≡ flat_map g (take i rs) ++ g (get_or rs i d)
+filled_more g rs i d h = grind (arith, common_steps)
 
 pub record Filled (g : Ran → List ℕ) (rs : List Ran) (old row : List ℕ) (i : ℕ) : Type 0 where
-  pub is : row ≡ over (joined g (take i rs)) old
-  pub many : length (joined g (take i rs)) ≡ 8 * i
+  pub is : row ≡ over (flat_map g (take i rs)) old
+  pub many : length (flat_map g (take i rs)) ≡ 8 * i
 
 pub filled_none : (g : Ran → List ℕ) (rs : List Ran) (old : List ℕ) → Filled g rs old old 0
 filled_none g rs old = record { is = refl; many = refl }
@@ -74,26 +74,18 @@ over_eight new old words k e h =
     ))
 
 module _ (g : Ran → List ℕ) (rs : List Ran) (old row : List ℕ) (i : ℕ) (f : Filled g rs old row i) where
-  pub filled_length : 8 * i ≤ length old → length row ≡ length old
-  filled_length h = ap length f.is ∙ over_length (joined g (take i rs)) old (omega (arith, f.many))
-
   pub filled_rest : eight_at i row ≡ eight_at i old
-  filled_rest =
-      let new = joined g (take i rs) in
-      ap (take 8) (ap₂ drop (sym f.many) f.is ∙ (drop-append_seam new (drop (length new) old) ∙ ap (λ (k : ℕ). drop k old) f.many))
+  filled_rest = grind (arith, common_steps)
 
-  pub filled_next : (d : Ran) (words : List ℕ) → i < length rs → words ≡ g (get_or rs i d) → length words ≡ 8 → Filled g rs old (paste row (8 * i) words 8) (i + 1)
-  filled_next d words h e m =
-      let new = joined g (take i rs) in
-      let one : suc i ≡ i + 1 = omega arith in
-      let longer : new ++ words ≡ joined g (take (i + 1) rs) = ap (λ (xs : List ℕ). new ++ xs) e ∙ (sym (joined_next g rs i d h) ∙ ap (λ (n : ℕ). joined g (take n rs)) one) in
-      record {
-        is = ap (λ (r : List ℕ). paste r (8 * i) words 8) f.is ∙ (over_eight new old words (8 * i) f.many m ∙ ap (λ (xs : List ℕ). over xs old) longer);
-        many = sym (ap length longer) ∙ (length-append new words ∙ omega (arith, f.many, m));
-      }
+  pub filled_next :
+      (d : Ran) (words row' : List ℕ) → i < length rs → words ≡ g (get_or rs i d) → length words ≡ 8 → row' ≡ eight_put i words row → Filled g rs old row' (i + 1)
+  filled_next d words row' h e m put =
+      let more = filled_more g rs i d h in
+      let written = over_eight (flat_map g (take i rs)) old words (8 * i) f.many m in
+      record { is = rw (put, f.is, written, e, more); many = grind (arith, common_steps) }
 
-  pub filled_all : i ≡ length rs → row ≡ over (joined g rs) old
-  filled_all e = f.is ∙ ap (λ (xs : List Ran). over (joined g xs) old) (take_all i rs (omega (arith, e)))
+  pub filled_all : i ≡ length rs → row ≡ over (flat_map g rs) old
+  filled_all e = grind (arith, common_steps)
 
 -- ---- the rows of a rack, box by box
 
@@ -134,17 +126,6 @@ module _ (l : List Step) (n : ℕ) (d₀ a₀ flags₀ starts : List ℕ) (b : �
         first_at_lem perform_of l b n (sets_of d₀ a₀ flags₀) starts (omega (arith, sets, sets_many d₀ a₀ flags₀)) places i none none.state 0 g
         ∙ ap (λ (s : State). run_of perform_of l s (get_or starts i 0) b) (sets_at d₀ a₀ flags₀ i none.state (omega (arith, g, sets)))
 
-    -- the rows are as long as they were
-    pub after_length : (d a flags answers : List ℕ) (i : ℕ) → i ≤ n → 8 * n ≤ length d₀ → 8 * n ≤ length a₀ → 8 * n ≤ length answers₀ → After d a flags answers i
-        → (length d ≡ length d₀) × (length a ≡ length a₀) × (length flags ≡ length flags₀) × (length answers ≡ length answers₀)
-    after_length d a flags answers i g of_d of_a of_answers t =
-        let front : length (map ccr_left (take i runs)) ≡ i = length-map (take i runs) ccr_left ∙ length-take-le i runs (omega (arith, g, runs_many)) in (
-          filled_length _ runs d₀ d i t.of_d (omega (arith, g, of_d)),
-          filled_length _ runs a₀ a i t.of_a (omega (arith, g, of_a)),
-          ap length t.of_flags ∙ over_length (map ccr_left (take i runs)) flags₀ (omega (arith, front, g, sets)),
-          filled_length ran_told runs answers₀ answers i t.of_answers (omega (arith, g, of_answers)),
-        )
-
     module _ (d a flags answers : List ℕ) (i : ℕ) (g : i < n) (t : After d a flags answers i) where
       -- the box that comes next has its registers and flags still
       still : box_state i d a flags ≡ box_state i d₀ a₀ flags₀
@@ -158,35 +139,39 @@ module _ (l : List Step) (n : ℕ) (d₀ a₀ flags₀ starts : List ℕ) (b : �
 
       -- a box more
       pub after_next : (r : Ran) → r ≡ run_of perform_of l (box_state i d a flags) (get_or starts i 0) b → (d' a' flags' answers' : List ℕ) → BoxPut i r d a flags d' a' flags'
-          → answers' ≡ paste answers (8 * i) (ran_told r) 8 → After d' a' flags' answers' (i + 1)
+          → answers' ≡ eight_put i (ran_told r) answers → After d' a' flags' answers' (i + 1)
       after_next r e d' a' flags' answers' p told =
           let is : r ≡ get_or runs i none = e ∙ (ap (λ (s : State). run_of perform_of l s (get_or starts i 0) b) still ∙ sym (run_at i g)) in
           let inside : i < length runs = omega (arith, g, runs_many) in
           record {
-            of_d = subst⁻¹ (λ (row : List ℕ). Filled (λ r. r.state.d) runs d₀ row (i + 1)) p.is_d
-                (filled_next _ runs d₀ d i t.of_d none r.state.d inside (ap (λ (x : Ran). x.state.d) is) p.many_d);
-            of_a = subst⁻¹ (λ (row : List ℕ). Filled (λ r. r.state.a) runs a₀ row (i + 1)) p.is_a
-                (filled_next _ runs a₀ a i t.of_a none r.state.a inside (ap (λ (x : Ran). x.state.a) is) p.many_a);
+            of_d = filled_next _ runs d₀ d i t.of_d none r.state.d d' inside (ap (λ (x : Ran). x.state.d) is) p.many_d p.is_d;
+            of_a = filled_next _ runs a₀ a i t.of_a none r.state.a a' inside (ap (λ (x : Ran). x.state.a) is) p.many_a p.is_a;
             of_flags = p.is_flags ∙ (ap₂ (λ (row : List ℕ) (x : Ran). set row i (ccr_left x)) t.of_flags is ∙ over_put ccr_left flags₀ runs i none inside (omega (arith, g, sets)));
-            of_answers = subst⁻¹ (λ (row : List ℕ). Filled ran_told runs answers₀ row (i + 1)) told
-                (filled_next ran_told runs answers₀ answers i t.of_answers none (ran_told r) inside (ap ran_told is) (told_many r.end _));
+            of_answers = filled_next ran_told runs answers₀ answers i t.of_answers none (ran_told r) answers' inside (ap ran_told is) (told_many r.end _) told;
           }
 
 -- ---- the whole rack, by its plan
 
-pub after_all : (listing d₀ a₀ flags₀ starts : List ℕ) (budget : ℕ) (answers₀ d a flags answers : List ℕ) (i k : ℕ) (plan : Racked) →
-    plan.boxes ≤ length flags₀ → plan.boxes ≤ length starts → i ≡ plan.boxes → k ≡ fit_number plan.fit →
-    After (first_of listing) plan.boxes d₀ a₀ flags₀ starts budget answers₀ d a flags answers i →
-    rack_left d a flags answers (k ∷ plan.boxes ∷ 0 ∷ 0 ∷ 0 ∷ 0 ∷ 0 ∷ 0 ∷ []) ≡ rack_by listing d₀ a₀ flags₀ starts budget answers₀ plan
-after_all listing d₀ a₀ flags₀ starts budget answers₀ d a flags answers i k plan sets places e number t =
-    let rs = runs (first_of listing) plan.boxes d₀ a₀ flags₀ starts budget answers₀ in
-    let last : i ≡ length rs = e ∙ sym (runs_many (first_of listing) plan.boxes d₀ a₀ flags₀ starts budget answers₀ sets places) in
+pub boxes_are : (plan : Plan) → result_unwrap_or plan 0 ≡ boxes_of plan
+boxes_are (Ok boxes) = refl
+boxes_are (Err refusal) = refl
+
+pub within_planned : (a b c : ℕ) (plan : Plan) → plan ≡ plan_of a b c → Within (boxes_of plan) a b c
+within_planned a b c plan e = rw e (plan_within a b c)
+
+pub after_all : (listing d₀ a₀ flags₀ starts : List ℕ) (budget : ℕ) (answers₀ d a flags answers : List ℕ) (i : ℕ) (plan : Plan) →
+    boxes_of plan ≤ length flags₀ → boxes_of plan ≤ length starts → i ≡ boxes_of plan →
+    After (first_of listing) (boxes_of plan) d₀ a₀ flags₀ starts budget answers₀ d a flags answers i →
+    rack_left d a flags answers (rack_told plan) ≡ rack_by listing d₀ a₀ flags₀ starts budget answers₀ plan
+after_all listing d₀ a₀ flags₀ starts budget answers₀ d a flags answers i plan sets places e t =
+    let n = boxes_of plan in
+    let rs = runs (first_of listing) n d₀ a₀ flags₀ starts budget answers₀ in
+    let last : i ≡ length rs = e ∙ sym (runs_many (first_of listing) n d₀ a₀ flags₀ starts budget answers₀ sets places) in
     rw (
       filled_all _ rs d₀ d i t.of_d last,
       filled_all _ rs a₀ a i t.of_a last,
       t.of_flags ∙ ap (λ (xs : List Ran). over (map ccr_left xs) flags₀) (take_all i rs (omega (arith, last))),
       filled_all ran_told rs answers₀ answers i t.of_answers last,
-      number,
     )
 
 -- ---- how many boxes there is room for
@@ -202,20 +187,20 @@ room_in n d a answers h = record { in_d = omega arith; in_a = omega arith; in_an
 -- ---- box by box
 
 -- the words of box i, where each run left eight
-joined_at : (g : Ran → List ℕ) (rs : List Ran) (i : ℕ) (rest : List ℕ) → ((j : ℕ) → j < length rs → length (g (get_or rs j none)) ≡ 8) → i < length rs
-    → take 8 (drop (8 * i) (joined g rs ++ rest)) ≡ g (get_or rs i none)
-joined_at g [] i rest each h = absurd (omega arith)
-joined_at g (r ∷ rs) zero rest each h =
-    ap (take 8) (append_assoc (g r) (joined g rs) rest) ∙ take_at (g r) (joined g rs ++ rest) 8 (each 0 (omega arith))
-joined_at g (r ∷ rs) (suc i) rest each h =
+boxed_at : (g : Ran → List ℕ) (rs : List Ran) (i : ℕ) (rest : List ℕ) → ((j : ℕ) → j < length rs → length (g (get_or rs j none)) ≡ 8) → i < length rs
+    → take 8 (drop (8 * i) (flat_map g rs ++ rest)) ≡ g (get_or rs i none)
+boxed_at g [] i rest each h = absurd (omega arith)
+boxed_at g (r ∷ rs) zero rest each h =
+    ap (take 8) (append_assoc (g r) (flat_map g rs) rest) ∙ take_at (g r) (flat_map g rs ++ rest) 8 (each 0 (omega arith))
+boxed_at g (r ∷ rs) (suc i) rest each h =
     let place : 8 * suc i ≡ length (g r) + 8 * i = omega (arith, each 0 (omega arith)) in
-    ap₂ (λ (k : ℕ) (row : List ℕ). take 8 (drop k row)) place (append_assoc (g r) (joined g rs) rest)
-    ∙ (ap (take 8) (drop-append-add (g r) (joined g rs ++ rest) (8 * i)) ∙ joined_at g rs i rest (λ j k. each (suc j) (omega (arith, k))) (omega arith))
+    ap₂ (λ (k : ℕ) (row : List ℕ). take 8 (drop k row)) place (append_assoc (g r) (flat_map g rs) rest)
+    ∙ (ap (take 8) (drop-append-add (g r) (flat_map g rs ++ rest) (8 * i)) ∙ boxed_at g rs i rest (λ j k. each (suc j) (omega (arith, k))) (omega arith))
 
 -- Each box of a rack that is not refused is what `listing_run` leaves of it, and tells
 pub rack_single :
     (listing d a flags starts : List ℕ) (budget : ℕ) (answers : List ℕ) →
-    (plan_of (length flags) (length starts) (min (min (length d) (length a)) (length answers) / 8)).fit ≡ Fits → (i : ℕ) → i < length flags →
+    IsOk (plan_of (length flags) (length starts) (min (min (length d) (length a)) (length answers) / 8)) → (i : ℕ) → i < length flags →
     let k = rack_words listing d a flags starts budget answers in
     state_left (eight_at i k.d) (eight_at i k.a) (get_or k.flags i 0) (eight_at i k.answers)
     ≡ run_words listing (eight_at i d) (eight_at i a) (get_or flags i 0) (get_or starts i 0) budget
@@ -238,14 +223,14 @@ rack_single listing d a flags starts budget answers fits i inside =
     let each-a : (j : ℕ) → j < length rs → length (get_or rs j none).state.a ≡ 8 =
     λ j k. let g : j < n = omega (arith, k, many) in (kept j g).address_registers ∙ eight a j g room.in_a in
     let here : i < length rs = omega (arith, inside, many) in
-    let left : Racked → StateLeft = λ p.
+    let left : Plan → StateLeft = λ p.
     let k = rack_by listing d a flags starts budget answers p in state_left (eight_at i k.d) (eight_at i k.a) (get_or k.flags i 0) (eight_at i k.answers) in
-    let words : left (record { fit = Fits; boxes = n }) ≡ ran_left (get_or rs i none) =
+    let words : left (Ok n) ≡ ran_left (get_or rs i none) =
     rw (
-      joined_at (λ r. r.state.d) rs i (drop (length (joined (λ r. r.state.d) rs)) d) each-d here,
-      joined_at (λ r. r.state.a) rs i (drop (length (joined (λ r. r.state.a) rs)) a) each-a here,
+      boxed_at (λ r. r.state.d) rs i (drop (length (flat_map (λ r. r.state.d) rs)) d) each-d here,
+      boxed_at (λ r. r.state.a) rs i (drop (length (flat_map (λ r. r.state.a) rs)) a) each-a here,
       over_before (map ccr_left rs) flags i 0 (omega (arith, here, length-map rs ccr_left)),
       get_or-map ccr_left rs i none,
-      joined_at ran_told rs i (drop (length (joined ran_told rs)) answers) (λ j k. told_many (get_or rs j none).end _) here,
+      boxed_at ran_told rs i (drop (length (flat_map ran_told rs)) answers) (λ j k. told_many (get_or rs j none).end _) here,
     ) in
     ap left (plan_fits n (length starts) slots h) ∙ (words ∙ ap ran_left (ran i inside))

@@ -1,12 +1,15 @@
 -- Words there and back: the word of a step names that step, and so a listing that is handed out in words is run as it was made. Assumes nothing.
 --     word_names, words_name   a step, and a listing of at most `array_slots`
-use Prim.Native.Nat.{ℕ, ◌+◌, ◌*◌, ◌/◌, ◌%◌, ◌<◌, ◌≤◌}
-use mathlib.Core.Path.{◌≡◌, refl, sym, ◌∙◌, ap₂}
+use Prim.Native.Nat.{ℕ, zero, suc, ◌/◌, ◌%◌, ◌<◌, ◌≤◌}
+use mathlib.Core.Path.{◌≡◌, refl, sym, ap, ap₂, ◌∙◌}
 use mathlib.Core.List.{List, [], ◌∷◌, map}
 use lib.Dec.{lit<}
 use native.Mathlib.Omega.{arith}
-use lib.ListN.{length, length-map}
+use lib.ListN.{length, get_or, length-map}
 use lib.Seq.{take_all}
+use Rattle.std.specs.Int.{w64, to_le_bytes}
+use Rattle.std.specs.Prelude.{Some}
+use Rattle.std.proofs.lemmas.Nat.{le_bytes_8}
 use Rattle.alu.specs.declared.types.Size.{Size}
 use Rattle.alu.specs.declared.types.Size.TheVariants.{Byte, Word, Long}
 use Rattle.step.specs.declared.forms.Register.TheVariants as Register
@@ -18,37 +21,15 @@ use Rattle.step.specs.Operations.{operation_number, operation_of}
 use Rattle.step.proofs.Operations.{stands}
 use Rattle.step.specs.Run.{array_slots}
 use Rattle.step.specs.Lines.{with_line}
-use Rattle.recipe_calls.specs.declared.words.Made.TheVariants.{Is}
-use Rattle.recipe_calls.specs.Words.{byte_radix, made_of, sized_of, step_of, first_of, step_word}
-use Rattle.recipe_calls.specs.Words.{size_number, source_kind, source_number, destination_number}
-use Rattle.recipe_calls.proofs.Naming.{form_named}
+use Rattle.recipe_calls.specs.declared.words.Source.{Source}
+use Rattle.recipe_calls.specs.declared.words.Source.TheVariants.{Absent, Small, Data}
+use Rattle.recipe_calls.specs.Words.{byte_radix, source_at, made_of, size_at, named, bare_of, step_of, first_of, step_word}
+use Rattle.recipe_calls.specs.Words.{size_number, source_of, kind_of, number_in, source_kind, source_number, destination_number}
+use Rattle.recipe_calls.proofs.Naming.{low}
 
--- ---- bytes: what stands in one comes out of it. 256, 65536 .. are the powers of `byte_radix`, as they compute
+-- ---- what the bytes of a step's word name
 
-abbrev packed : (a b c d e f : ℕ) → ℕ
-packed a b c d e f = a + b * 256 + c * 65536 + d * 16777216 + e * 4294967296 + f * 1099511627776
-
-byte_0 : (a b c d e f : ℕ) → a < byte_radix → packed a b c d e f / 1 % 256 ≡ a
-byte_0 a b c d e f h = omega arith
-
-byte_1 : (a b c d e f : ℕ) → a < byte_radix → b < byte_radix → packed a b c d e f / 256 % 256 ≡ b
-byte_1 a b c d e f h i = omega arith
-
-byte_2 : (a b c d e f : ℕ) → a < byte_radix → b < byte_radix → c < byte_radix → packed a b c d e f / 65536 % 256 ≡ c
-byte_2 a b c d e f h i j = omega arith
-
-byte_3 : (a b c d e f : ℕ) → a < byte_radix → b < byte_radix → c < byte_radix → d < byte_radix → packed a b c d e f / 16777216 % 256 ≡ d
-byte_3 a b c d e f h i j k = omega arith
-
-byte_4 : (a b c d e f : ℕ) → a < byte_radix → b < byte_radix → c < byte_radix → d < byte_radix → e < byte_radix → packed a b c d e f / 4294967296 % 256 ≡ e
-byte_4 a b c d e f h i j k l = omega arith
-
-byte_5 : (a b c d e f : ℕ) → a < byte_radix → b < byte_radix → c < byte_radix → d < byte_radix → e < byte_radix → f < byte_radix → packed a b c d e f / 1099511627776 % 256 ≡ f
-byte_5 a b c d e f h i j k l m = omega arith
-
--- ---- the form that an operation and its operands make
-
-form_found : (form : Form) → made_of (operation_of form) (source_kind form) (source_number form) (destination_number form) ≡ Is form
+form_found : (form : Form) → made_of (operation_of form) (source_of form) (destination_number form) ≡ Some form
 form_found (Form.Two op p q) = refl
 form_found (Form.Address op (Register.Data p) q) = refl
 form_found (Form.Address op (Register.Address p) q) = refl
@@ -61,27 +42,27 @@ form_found (Form.Bit op (Count.Small k) q) = refl
 form_found (Form.Bit op (Count.Data k) q) = refl
 form_found (Form.Chk p q) = refl
 
-size_found : (size : Size) (form : Form) → sized_of (size_number size) form ≡ record { size = size; form = form; line = 0 }
-size_found Byte form = refl
-size_found Word form = refl
-size_found Long form = refl
+source_found : (s : Source) → source_at (kind_of s) (number_in s) ≡ Some s
+source_found Absent = refl
+source_found (Small k) = refl
+source_found (Data p) = refl
+source_found (Source.Address p) = refl
+
+size_found : (size : Size) → size_at (size_number size) ≡ Some size
+size_found Byte = refl
+size_found Word = refl
+size_found Long = refl
 
 -- ---- the three bytes that are no operand's number
 
 operation_small : (o : Operation) → operation_number o < byte_radix
 operation_small o = omega (arith, (stands o).0)
 
-kind_small : (form : Form) → source_kind form < byte_radix
-kind_small (Form.Two op p q) = lit< tt
-kind_small (Form.Address op (Register.Data p) q) = lit< tt
-kind_small (Form.Address op (Register.Address p) q) = lit< tt
-kind_small (Form.Quick op k q) = lit< tt
-kind_small (Form.One op q) = lit< tt
-kind_small (Form.Shift op (Count.Small k) q) = lit< tt
-kind_small (Form.Shift op (Count.Data k) q) = lit< tt
-kind_small (Form.Bit op (Count.Small k) q) = lit< tt
-kind_small (Form.Bit op (Count.Data k) q) = lit< tt
-kind_small (Form.Chk p q) = lit< tt
+kind_small : (s : Source) → kind_of s < byte_radix
+kind_small Absent = lit< tt
+kind_small (Small k) = lit< tt
+kind_small (Data p) = lit< tt
+kind_small (Source.Address p) = lit< tt
 
 size_small : (size : Size) → size_number size < byte_radix
 size_small Byte = lit< tt
@@ -96,25 +77,37 @@ pub record Bytes (k : Step) : Type 0 where
   pub destination : destination_number k.form < byte_radix
   pub line : k.line < byte_radix
 
-pub word_names : (k : Step) → Bytes k → step_of (step_word k) ≡ k
+abbrev bytes_of : Step → List ℕ
+bytes_of k =
+    operation_number (operation_of k.form) ∷ size_number k.size ∷ source_kind k.form ∷ source_number k.form ∷ destination_number k.form ∷ k.line ∷ 0 ∷ 0 ∷ []
+
+abbrev AllSmall : List ℕ → Type 0
+AllSmall [] = Unit {0}
+AllSmall (b ∷ bs) = (b < byte_radix) × AllSmall bs
+
+small_at : (bs : List ℕ) → AllSmall bs → (i : ℕ) → get_or bs i 0 < byte_radix
+small_at [] h i = lit< tt
+small_at (b ∷ bs) h zero = h.0
+small_at (b ∷ bs) h (suc i) = small_at bs h.1 i
+
+all_small : (k : Step) → Bytes k → AllSmall (bytes_of k)
+all_small k h =
+    (operation_small (operation_of k.form), (size_small k.size, (kind_small (source_of k.form), (h.source, (h.destination, (h.line, (lit< tt, (lit< tt, tt))))))))
+
+-- what stands in a byte comes out of it
+bytes_found : (k : Step) → Bytes k → to_le_bytes w64 (step_word k) ≡ bytes_of k
 unfolding step_word
-word_names k h =
-    let f = k.form in
-    let o = operation_small (operation_of f) in
-    let z = size_small k.size in
-    let w = kind_small f in
-    let s = h.source in
-    let a = operation_number (operation_of f) in
-    let b = size_number k.size in
-    let c = source_kind f in
-    let d = source_number f in
-    let e = destination_number f in
-    let n = k.line in
-    let bare-named = sym
-    (form_named (step_word k) (sym (byte_0 a b c d e n o)) refl (stands (operation_of f)).1 (sym (byte_2 a b c d e n o z w)) (sym (byte_3 a b c d e n o z w s))
-    (sym (byte_4 a b c d e n o z w s h.destination)) refl (form_found f) (sym (byte_1 a b c d e n o z)))
-    ∙ size_found k.size f in
-    ap₂ {C = Step} with_line (byte_5 a b c d e n o z w s h.destination h.line) bare-named
+bytes_found k h = le_bytes_8 (bytes_of k) (step_word k) refl (small_at (bytes_of k) (all_small k h)) (omega arith)
+
+named_found : (k : Step) → Bytes k → named (step_word k) ≡ Some (record { size = k.size; form = k.form; line = 0 })
+unfolding named
+named_found k h =
+    let w = step_word k in
+    let b : (i : ℕ) → get_or (to_le_bytes w64 w) i 0 ≡ get_or (bytes_of k) i 0 = λ i. ap (λ (bs : List ℕ). get_or bs i 0) (bytes_found k h) in
+    rw (low w ∙ b 0, b 1, b 2, b 3, b 4, (stands (operation_of k.form)).1, source_found (source_of k.form), form_found k.form, size_found k.size)
+
+pub word_names : (k : Step) → Bytes k → step_of (step_word k) ≡ k
+word_names k h = rw (named_found k h, ap (λ (bs : List ℕ). get_or bs 5 0) (bytes_found k h))
 
 -- a listing's steps
 abbrev pub AllBytes : List Step → Type 0

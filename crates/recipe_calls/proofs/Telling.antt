@@ -1,59 +1,49 @@
--- Laws of what is told of a run and of a translation. Assumes nothing.
---     end_told          the three numbers of an end, one by one
---     slipped, passed   a text that the reader refuses, and one that it reads
---     fits, short       a translation made in an array, handed to a row that has room for it, and to one that has not: that into as many slots
-use Prim.Native.Nat.{ℕ, ◌≤◌, ◌<◌}
-use mathlib.Core.Bool.{true, false}
+-- Laws of what is told of a translation. Assumes nothing.
+--     unread, unlisted   a text that the reader refuses, and one that the translator refuses
+--     fits, short        a translation made in an array, handed to a row that has room for it, and to one that has not: that into as many slots
+use Prim.Native.Nat.{◌≤◌, ◌<◌, ℕ}
 use mathlib.Core.Path.{◌≡◌, refl, sym, ap, ◌∙◌}
-use mathlib.Core.List.{List, ◌∷◌, ◌++◌}
+use mathlib.Core.List.{List, map}
 use borrow.Author.Tests.{le-ltb, lt-ltb}
-use lib.ListN.{length, get_or, take, drop, replicate, length-replicate}
+use lib.ListN.{length, take, drop, replicate, length-replicate}
 use lib.Seq.{take_at, length-take-le}
+use Rattle.std.specs.Prelude.{Result, Ok, Err}
 use Rattle.step.specs.declared.forms.Step.{Step}
-use Rattle.step.specs.declared.runs.End.{End}
-use Rattle.step.specs.declared.runs.End.TheVariants.{Finished, Budget, Trapped, Refused}
-use Rattle.step.specs.Run.{end_numbers}
+use Rattle.step.specs.Lent.{over}
 use Rattle.recipes.specs.declared.types.Recipe.{Recipe}
 use Rattle.recipes.specs.declared.types.Refusal.TheVariants.{NoSpace}
-use Rattle.recipes.specs.declared.types.Reading.{Reading}
-use Rattle.recipes.specs.Recipe.{at_line, is_nothing}
+use Rattle.recipes.specs.declared.types.Refused.{Refused}
+use Rattle.recipes.specs.declared.types.Listing.{Listing}
+use Rattle.recipes.specs.Recipe.{at_line}
 use Rattle.recipes.specs.Reader.{read_of}
-use Rattle.recipes.specs.Listing.{blank, blanks, translate_of}
-use Rattle.recipes.proofs.Settling.{blanks_hold, translate_lent}
+use Rattle.recipes.specs.Listing.{blank, array_of, translate_of}
+use Rattle.recipes.proofs.Settling.{copied, blanks_hold, translate_lent}
+use Rattle.recipe_calls.specs.Words.{step_word}
 use Rattle.recipe_calls.specs.Calls.{row_left, translation_told, listed_in, translate_words}
-
-pub end_told : (e : End) (rest : List ℕ) → get_or (end_numbers e) 0 0 ∷ get_or (end_numbers e) 1 0 ∷ get_or (end_numbers e) 2 0 ∷ rest ≡ end_numbers e ++ rest
-end_told Finished rest = refl
-end_told Budget rest = refl
-end_told (Trapped trap place line) rest = refl
-end_told (Refused fault place line) rest = refl
 
 -- as many slots as a row has
 abbrev slots : List ℕ → List Step
 slots row = replicate (length row) blank
 
-pub slipped :
-    (text row : List ℕ) (r : Reading) → r ≡ read_of text → is_nothing r.refused ≡ false →
-    row_left row (translation_told r.refused 0) ≡ translate_words text row
-slipped text row r is some = rw (← is, some)
+pub unread : (text row : List ℕ) (k : Refused) → read_of text ≡ Err k → row_left row (translation_told (Err k)) ≡ translate_words text row
+unread text row k e = rw e
 
-pub passed :
-    (text row : List ℕ) (r : Reading) → r ≡ read_of text → is_nothing r.refused ≡ true →
-    listed_in row (translate_of r.recipe (slots row)) ≡ translate_words text row
-passed text row r is none = rw (← is, none)
+-- a text that is read, by what the translator makes of it in an array
+by_array : (text row : List ℕ) (r : Recipe) → read_of text ≡ Ok r → listed_in row (copied (array_of r) (slots row)) ≡ translate_words text row
+by_array text row r e = rw (e, translate_lent r (slots row))
 
-pub fits :
-    (row : List ℕ) (r : Recipe) → (translate_of r blanks).count ≤ length row →
-    listed_in row (translate_of r blanks) ≡ listed_in row (translate_of r (slots row))
-fits row r room =
-    let t = translate_of r blanks in
-    let enough : t.count ≤ length (slots row) = rw (length-replicate) room in
-    sym
-    (ap (listed_in row) (sym (translate_lent r (slots row)))
-    ∙ rw (le-ltb (length (slots row)) t.count enough, take_at (take t.count t.steps) (drop t.count (slots row)) t.count (length-take-le t.count t.steps (blanks_hold r))))
+module _ (text row : List ℕ) (r : Recipe) (read : read_of text ≡ Ok r) where
+  pub unlisted : (k : Refused) → array_of r ≡ Err k → row_left row (translation_told (Err k)) ≡ translate_words text row
+  unlisted k e = rw e at (by_array text row r read)
 
-pub short : (row : List ℕ) (r : Recipe) → length row < (translate_of r blanks).count → row_left row (translation_told (at_line NoSpace 0) 0) ≡ listed_in row (translate_of r (slots row))
-short row r room =
-    let t = translate_of r blanks in
-    let few : length (slots row) < t.count = rw (length-replicate) room in
-    sym (ap (listed_in row) (sym (translate_lent r (slots row))) ∙ rw (lt-ltb (length (slots row)) t.count few))
+  module _ (l : Listing) (made : array_of r ≡ Ok l) where
+    pub short : length row < l.count → row_left row (translation_told (Err (at_line NoSpace 0))) ≡ translate_words text row
+    short room =
+        let few : length (slots row) < l.count = rw (length-replicate) room in
+        rw (made, lt-ltb (length (slots row)) l.count few) at (by_array text row r read)
+
+    pub fits : l.count ≤ length row → row_left (over (map step_word (take l.count l.steps)) row) (translation_told (Ok l.count)) ≡ translate_words text row
+    fits room =
+        let enough : l.count ≤ length (slots row) = rw (length-replicate) room in
+        let held = length-take-le l.count l.steps (blanks_hold r l made) in
+        rw (made, le-ltb (length (slots row)) l.count enough, take_at (take l.count l.steps) (drop l.count (slots row)) l.count held) at (by_array text row r read)

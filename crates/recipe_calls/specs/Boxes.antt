@@ -14,7 +14,7 @@ abbrev pub box_state : (i : ℕ) → (d a flags : List ℕ) → State
 box_state i d a flags = state_of (eight_at i d) (eight_at i a) (get_or flags i 0)
 
 -- eight words written for box i (the library's `paste`)
-abbrev pub eight_put : (i : ℕ) → (words row : List ℕ) → List ℕ
+abbrev pub eight_put : {A : Type 0} → (i : ℕ) → (words row : List A) → List A
 eight_put i words row = take (8 * i) row ++ take 8 words ++ drop (8 * i + 8) row
 
 -- what its run leaves has been written to the rows

@@ -1,5 +1,5 @@
 -- A step as one number: a word for a caller in another language. Assumes nothing.
-use Rattle.std.specs.Prelude.{ℕ, ◌+◌, ◌*◌, ◌/◌, ◌%◌, ◌^◌, cond, List, map, eqb, take}
+use Rattle.std.specs.Prelude.{ℕ, ◌+◌, ◌*◌, ◌/◌, ◌%◌, ◌^◌, cond, Option, Some, None, option_and_then, unwrap_or, List, map, eqb, take}
 use Rattle.alu.specs.declared.types.Size.{Size}
 use Rattle.alu.specs.declared.types.Size.TheVariants.{Byte, Word, Long}
 use Rattle.step.specs.declared.forms.Register.{Register}
@@ -8,12 +8,11 @@ use Rattle.step.specs.declared.forms.Form.{Form}
 use Rattle.step.specs.declared.forms.Step.{Step}
 use Rattle.step.specs.declared.forms.Operation.{Operation}
 use Rattle.step.specs.declared.forms.Operation.TheVariants.{Two, Address, Quick, QuickAddress, One, Shift, Bit, Chk}
-use Rattle.step.specs.declared.forms.Found.{Found}
 use Rattle.step.specs.Operations.{operation_at, operation_number, operation_of}
 use Rattle.step.specs.Run.{array_slots}
 use Rattle.step.specs.Lines.{with_line}
-use Rattle.recipe_calls.specs.declared.words.Made.{Made}
-use Rattle.recipe_calls.specs.declared.words.Made.TheVariants.{Is, NoForm}
+use Rattle.recipe_calls.specs.declared.words.Source.{Source}
+use Rattle.recipe_calls.specs.declared.words.Source.TheVariants.{Absent, Small, Data}
 
 -- a byte holds a number below this
 abbrev pub byte_radix : ℕ
@@ -27,49 +26,49 @@ byte_of i word = word / byte_radix ^ i % byte_radix
 -- data register, 3 an address register), 3 the source's number, 4 the destination's register number, 5 the text line. Byte 3 does not count where the kind
 -- is 0. Bytes 6 and 7 are reserved: a caller writes 0 there, as `step_word` does; today they are not read
 
--- a form that takes one kind of source, or either of two
-abbrev pub only : (kind wanted : ℕ) → Form → Made
-only kind wanted form = cond (eqb kind wanted) (Is form) NoForm
+-- a source by its kind and its number
+abbrev pub source_at : (kind s : ℕ) → Option Source
+source_at kind s =
+    cond (eqb kind 0) (Some Absent)
+    (cond (eqb kind 1) (Some (Small s)) (cond (eqb kind 2) (Some (Data (record { 0 = s }))) (cond (eqb kind 3) (Some (Source.Address (record { 0 = s }))) None)))
 
-abbrev pub either : (kind first : ℕ) → Form → (second : ℕ) → Form → Made
-either kind first form second other = cond (eqb kind first) (Is form) (only kind second other)
+-- document 01's forms: an operation, a source, and the number t of the destination
+abbrev pub made_of : Operation → Source → (t : ℕ) → Option Form
+made_of (Two op) (Data p) t = Some (Form.Two op p (record { 0 = t }))
+made_of (Address op) (Data p) t = Some (Form.Address op (Register.Data p) (record { 0 = t }))
+made_of (Address op) (Source.Address p) t = Some (Form.Address op (Register.Address p) (record { 0 = t }))
+made_of (Quick op) (Small k) t = Some (Form.Quick op k (Register.Data (record { 0 = t })))
+made_of (QuickAddress op) (Small k) t = Some (Form.Quick op k (Register.Address (record { 0 = t })))
+made_of (One op) Absent t = Some (Form.One op (record { 0 = t }))
+made_of (Shift op) (Small k) t = Some (Form.Shift op (Count.Small k) (record { 0 = t }))
+made_of (Shift op) (Data p) t = Some (Form.Shift op (Count.Data p) (record { 0 = t }))
+made_of (Bit op) (Small k) t = Some (Form.Bit op (Count.Small k) (record { 0 = t }))
+made_of (Bit op) (Data p) t = Some (Form.Bit op (Count.Data p) (record { 0 = t }))
+made_of Chk (Data p) t = Some (Form.Chk p (record { 0 = t }))
+made_of o s t = None
 
--- document 01's forms: an operation, a source of this kind and number s, and the destination t
-abbrev pub made_of : Operation → (kind s t : ℕ) → Made
-made_of (Two op) kind s t = only kind 2 (Form.Two op (record { 0 = s }) (record { 0 = t }))
-made_of (Address op) kind s t =
-    either kind 2 (Form.Address op (Register.Data (record { 0 = s })) (record { 0 = t }))
-    3 (Form.Address op (Register.Address (record { 0 = s })) (record { 0 = t }))
-made_of (Quick op) kind s t = only kind 1 (Form.Quick op s (Register.Data (record { 0 = t })))
-made_of (QuickAddress op) kind s t = only kind 1 (Form.Quick op s (Register.Address (record { 0 = t })))
-made_of (One op) kind s t = only kind 0 (Form.One op (record { 0 = t }))
-made_of (Shift op) kind s t =
-    either kind 1 (Form.Shift op (Count.Small s) (record { 0 = t })) 2 (Form.Shift op (Count.Data (record { 0 = s })) (record { 0 = t }))
-made_of (Bit op) kind s t =
-    either kind 1 (Form.Bit op (Count.Small s) (record { 0 = t })) 2 (Form.Bit op (Count.Data (record { 0 = s })) (record { 0 = t }))
-made_of Chk kind s t = only kind 2 (Form.Chk (record { 0 = s }) (record { 0 = t }))
-
--- where a number names no operation there is none
-abbrev pub form_of : Found → (kind s t : ℕ) → Made
-form_of (Found.Is o) kind s t = made_of o kind s t
-form_of Found.NoOperation kind s t = NoForm
+abbrev pub size_at : ℕ → Option Size
+size_at n = cond (eqb n 0) (Some Byte) (cond (eqb n 1) (Some Word) (cond (eqb n 2) (Some Long) None))
 
 -- what a word stands for that names no step: a CHK of a byte, which the machine refuses with 2
 abbrev pub no_step : Step
 no_step = record { size = Byte; form = Form.Chk (record { 0 = 0 }) (record { 0 = 0 }); line = 0 }
 
-abbrev pub sized_of : (size : ℕ) → Form → Step
-sized_of size form =
-    cond (eqb size 0) (record { size = Byte; form = form; line = 0 })
-    (cond (eqb size 1) (record { size = Word; form = form; line = 0 }) (cond (eqb size 2) (record { size = Long; form = form; line = 0 }) no_step))
+infixl 10 ◌>>=◌
+abbrev pub ◌>>=◌ : {A B : Type 0} → Option A → (A → Option B) → Option B
+o >>= f = option_and_then f o
 
-abbrev pub named : (size : ℕ) → Made → Step
-named size (Is form) = sized_of size form
-named size NoForm = no_step
+-- the step that a word names, without its line, if it names one
+unfoldable pub named : (word : ℕ) → Option Step
+named word = do
+  operation ← operation_at (byte_of 0 word)
+  source ← source_at (byte_of 2 word) (byte_of 3 word)
+  form ← made_of operation source (byte_of 4 word)
+  size ← size_at (byte_of 1 word)
+  Some (record { size = size; form = form; line = 0 })
 
--- the step that a word names, without its line
-unfoldable pub bare_of : (word : ℕ) → Step
-bare_of word = named (byte_of 1 word) (form_of (operation_at (byte_of 0 word)) (byte_of 2 word) (byte_of 3 word) (byte_of 4 word))
+abbrev pub bare_of : (word : ℕ) → Step
+bare_of word = unwrap_or (named word) no_step
 
 -- and with it, byte 5. A word that names no step has its line too, so that the refusal tells it
 abbrev pub step_of : (word : ℕ) → Step
@@ -86,39 +85,44 @@ size_number Byte = 0
 size_number Word = 1
 size_number Long = 2
 
-abbrev pub register_kind : Register → ℕ
-register_kind (Register.Data r) = 2
-register_kind (Register.Address r) = 3
-
 abbrev pub register_number : Register → ℕ
 register_number (Register.Data r) = r.0
 register_number (Register.Address r) = r.0
 
-abbrev pub count_kind : Count → ℕ
-count_kind (Count.Small k) = 1
-count_kind (Count.Data r) = 2
+abbrev pub of_register : Register → Source
+of_register (Register.Data r) = Data r
+of_register (Register.Address r) = Source.Address r
 
-abbrev pub count_number : Count → ℕ
-count_number (Count.Small k) = k
-count_number (Count.Data r) = r.0
+abbrev pub of_count : Count → Source
+of_count (Count.Small k) = Small k
+of_count (Count.Data r) = Data r
+
+abbrev pub source_of : Form → Source
+source_of (Form.Two op p q) = Data p
+source_of (Form.Address op p q) = of_register p
+source_of (Form.Quick op k q) = Small k
+source_of (Form.One op q) = Absent
+source_of (Form.Shift op k q) = of_count k
+source_of (Form.Bit op k q) = of_count k
+source_of (Form.Chk p q) = Data p
+
+abbrev pub kind_of : Source → ℕ
+kind_of Absent = 0
+kind_of (Small k) = 1
+kind_of (Data r) = 2
+kind_of (Source.Address r) = 3
+
+abbrev pub number_in : Source → ℕ
+number_in Absent = 0
+number_in (Small k) = k
+number_in (Data r) = r.0
+number_in (Source.Address r) = r.0
 
 abbrev pub source_kind : Form → ℕ
-source_kind (Form.Two op p q) = 2
-source_kind (Form.Address op p q) = register_kind p
-source_kind (Form.Quick op k q) = 1
-source_kind (Form.One op q) = 0
-source_kind (Form.Shift op k q) = count_kind k
-source_kind (Form.Bit op k q) = count_kind k
-source_kind (Form.Chk p q) = 2
+source_kind form = kind_of (source_of form)
 
 abbrev pub source_number : Form → ℕ
-source_number (Form.Two op p q) = p.0
-source_number (Form.Address op p q) = register_number p
-source_number (Form.Quick op k q) = k
-source_number (Form.One op q) = 0
-source_number (Form.Shift op k q) = count_number k
-source_number (Form.Bit op k q) = count_number k
-source_number (Form.Chk p q) = p.0
+source_number form = number_in (source_of form)
 
 abbrev pub destination_number : Form → ℕ
 destination_number (Form.Two op p q) = q.0

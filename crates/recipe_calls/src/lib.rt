@@ -9,40 +9,57 @@
 mod rows;
 mod words;
 
-ghost use Rattle.std.specs.Prelude.{◌≡◌, ◌+◌, ◌*◌, ◌<◌, ◌≤◌, length, take};
+ghost use Rattle.std.specs.Prelude.{◌≡◌, ◌+◌, ◌*◌, ◌<◌, ◌≤◌, length};
 ghost use Rattle.step.specs.Perform.{perform_of};
 ghost use Rattle.step.specs.Run.{run_of, end_numbers};
 ghost use Rattle.text.specs.Wrote.{written, writing};
 ghost use Rattle.recipes.specs.Printer.{listing_text, answer_of};
 ghost use Rattle.recipe_calls.specs.Words.{first_of};
-ghost use Rattle.recipe_calls.specs.Calls.{row_left, state_left, rack_left, translation_told, translate_words, ran_told, run_words, rack_words, promised_of, ccr_after, recipe_run_words};
+ghost use Rattle.recipe_calls.specs.Calls.{row_left, state_of, state_left, rack_left, translation_told, translate_words, ran_told, run_words, rack_told, rack_words, promised_of, ccr_after, recipe_run_words};
 ghost use Rattle.recipe_calls.specs.Boxes.{box_state, BoxPut};
 
-use alu::types::{ccr, flags_of};
+use alu::types::Flags;
 use recipes::printer::print;
 use recipes::reader::read;
 use recipes::runner::{answer, run_text};
 use recipes::translator::translate_array;
-use recipes::types::{Codes, Refusal, Refused, at_line, is_nothing, number};
-use rows::{eight_at, put_eight, put_steps, put_told, steps_of};
+use recipes::types::{RecipeRun, Refusal, Refused, at_line};
+use rows::{eight_at, listing_of, put_eight, put_steps};
 use step::forms::Step;
-use step::racks::plan;
+use step::lent::run;
+use step::racks::{TooManyBoxes, plan};
 use step::registers::State;
-use step::runs::{End, Ran, SLOTS, end_line, lesser, run_array};
-use step::steps::class;
+use step::runs::{End, Ran};
 
 // How many numbers a call tells.
 pub const TOLD: usize = 8;
 
-// What is told of a translation.
-fn translation_told(refused: Refused, steps: usize) -> [u64; TOLD]
-    ensures { result ≡ translation_told refused steps }
+// What is told of a translation: how many steps it has, or why there is none.
+fn translation_told(made: Result<usize, Refused>) -> [u64; TOLD]
+    ensures { result ≡ translation_told made }
 {
-    let refusal = refused.refusal;
-    let number = number(refusal) as u64;
-    let line = refused.line as u64;
-    let column = refused.column as u64;
-    [number, line, steps as u64, column, 0, 0, 0, 0]
+    match made {
+        Ok(steps) => [0, 0, steps as u64, 0, 0, 0, 0, 0],
+        Err(refused) => {
+            let number = u64::from(u8::from(refused.refusal));
+            let line = refused.line as u64;
+            let column = refused.column as u64;
+            [number, line, 0, column, 0, 0, 0, 0]
+        }
+    }
+}
+
+// Reads a recipe text, translates it, and writes its steps.
+#[tactic(auto, using(crate::proofs::Telling::unlisted, crate::proofs::Telling::short, crate::proofs::Telling::fits))]
+fn translate(text: &[u8], listing: &mut [u64]) -> Result<usize, Refused>
+    ensures { row_left listing.new (translation_told result) ≡ translate_words text.now listing.old }
+{
+    let made = translate_array(read(text)?)?;
+    if listing.len() < made.count {
+        return Err(at_line(Refusal::NoSpace, 0));
+    }
+    put_steps(made.steps(), listing);
+    Ok(made.count)
 }
 
 // Reads a recipe text and translates it into a listing. `told` gets the refusal number, its text line, the number of steps and
@@ -50,22 +67,7 @@ fn translation_told(refused: Refused, steps: usize) -> [u64; TOLD]
 pub fn recipe_translate(text: &[u8], listing: &mut [u64], told: &mut [u64; TOLD])
     ensures { row_left listing.new told.new ≡ translate_words text.now listing.old }
 {
-    let reading = read(text);
-    let slip = reading.refused;
-    let recipe = reading.recipe;
-    if !is_nothing(slip) {
-        *told = translation_told(slip, 0);
-        return;
-    }
-    let made = translate_array(recipe);
-    let refused = made.refused;
-    let steps = made.steps;
-    if listing.len() < made.count {
-        *told = translation_told(at_line(Refusal::NoSpace, 0), 0);
-        return;
-    }
-    put_steps(steps, made.count, listing);
-    *told = translation_told(refused, made.count);
+    *told = translation_told(translate(text, listing));
 }
 
 // Which of the four ends it is, its trap's class or its refusal's number, and the place of either.
@@ -75,8 +77,8 @@ fn end_numbers(end: End) -> [u64; 3]
     match end {
         End::Finished => [0, 0, 0],
         End::Budget => [1, 0, 0],
-        End::Trapped(trap, place, _) => [2, class(trap) as u64, place as u64],
-        End::Refused(fault, place, _) => [3, step::steps::number(fault) as u64, place as u64],
+        End::Trapped(trap, place, _) => [2, u64::from(u32::from(trap)), place as u64],
+        End::Refused(fault, place, _) => [3, u64::from(u32::from(fault)), place as u64],
     }
 }
 
@@ -84,19 +86,28 @@ fn end_numbers(end: End) -> [u64; 3]
 fn ran_told(ran: Ran) -> [u64; TOLD]
     ensures { result ≡ ran_told ran }
 {
-    let ended = ran.end;
-    let end = end_numbers(ended);
-    let line = end_line(ended);
+    let [end, number, place] = end_numbers(ran.end);
     [
-        end[0],
-        end[1],
-        end[2],
+        end,
+        number,
+        place,
         ran.next as u64,
-        ran.steps as u64,
+        u64::from(ran.steps),
         ran.clocks,
-        line as u64,
+        u64::from(ran.end.line()),
         0,
     ]
+}
+
+// A register set as it crosses.
+fn state_of(d: [u32; 8], a: [u32; 8], flags: u8) -> State
+    ensures { result ≡ state_of d a flags }
+{
+    State {
+        d,
+        a,
+        flags: Flags::from(flags),
+    }
 }
 
 // Runs the first `SLOTS` steps of a listing from a place, with a budget. `told` gets the end, the trap's class or the refusal's
@@ -113,28 +124,22 @@ pub fn listing_run(
 )
     ensures { state_left d.new a.new flags.new told.new ≡ run_words listing.now d.old a.old flags.old start budget }
 {
-    let before_d = *d;
-    let before_a = *a;
-    let before = State {
-        d: before_d,
-        a: before_a,
-        flags: flags_of(*flags),
-    };
-    let ran = run_array(steps_of(listing), listing.len(), before, start, budget);
-    let after = ran.state;
-    let after_d = after.d;
-    let after_a = after.a;
-    let after_flags = after.flags;
-    *d = after_d;
-    *a = after_a;
-    *flags = ccr(after_flags);
+    let before = state_of(*d, *a, *flags);
+    let ran = run(listing_of(listing).steps(), before, start, budget);
+    let State {
+        d: new_d,
+        a: new_a,
+        flags: new_flags,
+    } = ran.state;
+    *d = new_d;
+    *a = new_a;
+    *flags = u8::from(new_flags);
     *told = ran_told(ran);
 }
 
 // Box i of a rack is run, and its registers and flags are written.
 fn run_box(
-    steps: [Step; SLOTS],
-    count: usize,
+    steps: &[Step],
     d: &mut [u32],
     a: &mut [u32],
     flags: &mut [u8],
@@ -143,24 +148,24 @@ fn run_box(
     budget: u32,
 ) -> Ran
     requires { (8 * i + 8 ≤ length d.old) × (8 * i + 8 ≤ length a.old) × (i < length flags.old) }
-    ensures { (result ≡ run_of perform_of (take count steps) (box_state i d.old a.old flags.old) start budget) × BoxPut i result d.old a.old flags.old d.new a.new flags.new }
+    ensures { (result ≡ run_of perform_of steps.now (box_state i d.old a.old flags.old) start budget) × BoxPut i result d.old a.old flags.old d.new a.new flags.new }
 {
-    let before_d = eight_at(d, i);
-    let before_a = eight_at(a, i);
-    let before = State {
-        d: before_d,
-        a: before_a,
-        flags: flags_of(flags[i]),
-    };
-    let ran = run_array(steps, count, before, start, budget);
-    let after = ran.state;
-    let after_d = after.d;
-    let after_a = after.a;
-    let after_flags = after.flags;
-    put_eight(d, i, after_d);
-    put_eight(a, i, after_a);
-    flags[i] = ccr(after_flags);
+    let before = state_of(eight_at(d, i), eight_at(a, i), flags[i]);
+    let ran = run(steps, before, start, budget);
+    put_eight(d, i, ran.state.d);
+    put_eight(a, i, ran.state.a);
+    flags[i] = u8::from(ran.state.flags);
     ran
+}
+
+// What is told of a rack: how many boxes are run, or why none is.
+fn rack_told(plan: Result<usize, TooManyBoxes>) -> [u64; TOLD]
+    ensures { result ≡ rack_told plan }
+{
+    match plan {
+        Ok(boxes) => [0, boxes as u64, 0, 0, 0, 0, 0, 0],
+        Err(refusal) => [u64::from(u8::from(refusal)), 0, 0, 0, 0, 0, 0, 0],
+    }
 }
 
 // Runs the first `SLOTS` steps of a listing on a rack of as many boxes as there are flags, each from its own start place and
@@ -178,25 +183,23 @@ pub fn rack_run(
 )
     ensures { rack_left d.new a.new flags.new answers.new told.new ≡ rack_words listing.now d.old a.old flags.old starts.now budget answers.old }
 {
-    let steps = steps_of(listing);
-    let words = lesser(lesser(d.len(), a.len()), answers.len());
-    let racked = plan(flags.len(), starts.len(), words / TOLD);
-    let mut i = 0;
-    while i < racked.boxes {
-        let ran = run_box(steps, listing.len(), d, a, flags, i, starts[i], budget);
-        put_told(answers, i, ran_told(ran));
-        i += 1;
+    let made = listing_of(listing);
+    let steps = made.steps();
+    let words = d.len().min(a.len()).min(answers.len());
+    let plan = plan(flags.len(), starts.len(), words / TOLD);
+    for i in 0..plan.unwrap_or(0) {
+        let ran = run_box(steps, d, a, flags, i, starts[i], budget);
+        put_eight(answers, i, ran_told(ran));
     }
-    let fit = racked.fit;
-    let number = step::racks::number(fit) as u64;
-    *told = [number, racked.boxes as u64, 0, 0, 0, 0, 0, 0];
+    *told = rack_told(plan);
 }
 
 // Prints the first `SLOTS` steps of a listing, as the program `recipe` does, and answers how many bytes it wrote.
 pub fn listing_print(width: u8, listing: &[u64], out: &mut [u8]) -> usize
     ensures { written out.new result ≡ writing out.old 0 (listing_text width (first_of listing.now)) }
 {
-    print(width, steps_of(listing), listing.len(), out)
+    let made = listing_of(listing);
+    print(width, made.steps, made.count, out)
 }
 
 // What the program `recipe` prints for the text that it read.
@@ -207,22 +210,22 @@ pub fn recipe_answer(text: &[u8], out: &mut [u8]) -> usize
 }
 
 // The flags that document 01 promises behind a recipe, as bits: all five, or X alone.
-fn promised(codes: Codes) -> u8
+fn promised(codes: Option<Flags>) -> u8
     ensures { result ≡ promised_of codes }
 {
     match codes {
-        Codes::Open => 16,
-        Codes::Known(_) => 31,
+        None => 16,
+        Some(_) => 31,
     }
 }
 
 // Those flags.
-fn ccr_after(x: bool, codes: Codes) -> u8
+fn ccr_after(x: bool, codes: Option<Flags>) -> u8
     ensures { result ≡ ccr_after x codes }
 {
     match codes {
-        Codes::Open => { if x { 16 } else { 0 } }
-        Codes::Known(flags) => ccr(flags),
+        None => { if x { 16 } else { 0 } }
+        Some(flags) => u8::from(flags),
     }
 }
 
@@ -237,30 +240,25 @@ pub fn recipe_run(
 )
     ensures { state_left d.new a.new flags.new told.new ≡ recipe_run_words text.now d.old a.old flags.old }
 {
-    let before_d = *d;
-    let before_a = *a;
-    let before = State {
-        d: before_d,
-        a: before_a,
-        flags: flags_of(*flags),
-    };
-    let ran = run_text(text, before);
-    let after_d = ran.d;
-    let after_a = ran.a;
-    let codes = ran.codes;
-    let refused = ran.refused;
-    let refusal = refused.refusal;
-    *d = after_d;
-    *a = after_a;
-    *flags = ccr_after(ran.x, codes);
-    *told = [
-        number(refusal) as u64,
-        refused.line as u64,
-        promised(codes) as u64,
-        ran.steps as u64,
-        ran.clocks,
-        refused.column as u64,
-        0,
-        0,
-    ];
+    let before = state_of(*d, *a, *flags);
+    match run_text(text, before) {
+        Ok(ran) => {
+            let RecipeRun {
+                d: new_d, a: new_a, ..
+            } = ran;
+            *d = new_d;
+            *a = new_a;
+            *flags = ccr_after(ran.x, ran.codes);
+            let mask = u64::from(promised(ran.codes));
+            *told = [0, 0, mask, u64::from(ran.steps), ran.clocks, 0, 0, 0];
+        }
+        Err(refused) => {
+            *flags = u8::from(before.flags);
+            let mask = u64::from(promised(Some(before.flags)));
+            let number = u64::from(u8::from(refused.refusal));
+            let line = refused.line as u64;
+            let column = refused.column as u64;
+            *told = [number, line, mask, 0, 0, column, 0, 0];
+        }
+    }
 }

@@ -1,90 +1,88 @@
 // A step as one number, laid out as `specs/Words.antt` says. An operation has the number by which `alu_call` knows it.
-// In a contract `only` and `either` are the definitions of specs/, not the functions here.
-ghost use Rattle.std.specs.Prelude.{◌≡◌, ◌%◌};
-ghost use Rattle.recipe_calls.specs.Words.{byte_radix, only, either, made_of, no_step, sized_of, bare_of, step_of};
-ghost use Rattle.recipe_calls.specs.Words.{size_number, register_kind, register_number, count_kind, count_number, source_kind, source_number, destination_number, step_word};
+// In a contract a name is the definition of specs/, not the function here.
+ghost use Rattle.std.specs.Prelude.{◌≡◌};
+ghost use Rattle.recipe_calls.specs.Words.{source_at, kind_of, number_in, of_register, of_count, made_of, size_at, no_step, named, step_of};
+ghost use Rattle.recipe_calls.specs.Words.{size_number, register_number, source_of, destination_number, step_word};
 
 use alu::types::Size;
 use step::forms::{
-    Count, Form, Found, Operation, Register, Step, number, operation_at, operation_of, with_line,
+    Count, Form, Operation, Register, Step, operation_at, operation_of, with_line,
 };
 use step::registers::{A, D};
 
-// A form, where an operation and its operands make one.
+// A form's source.
 #[derive(Clone, Copy)]
-pub(crate) enum Made {
-    Is(Form),
-    NoForm,
+pub(crate) enum Source {
+    Absent,
+    Small(u8),
+    Data(D),
+    Address(A),
 }
 
-// The kinds of a source.
-const NONE: u8 = 0;
+impl Source {
+    // A source by its kind and its number, if that is a kind.
+    fn at(kind: u8, number: u8) -> Option<Source>
+        ensures { result ≡ source_at kind number }
+    {
+        match kind {
+            0 => Some(Source::Absent),
+            1 => Some(Source::Small(number)),
+            2 => Some(Source::Data(D(number))),
+            3 => Some(Source::Address(A(number))),
+            _ => None,
+        }
+    }
 
-const SMALL: u8 = 1;
-
-const DATA: u8 = 2;
-
-const ADDRESS: u8 = 3;
+    fn kind_and_number(self) -> (u8, u8)
+        ensures { result ≡ (kind_of self, number_in self) }
+    {
+        match self {
+            Source::Absent => (0, 0),
+            Source::Small(k) => (1, k),
+            Source::Data(d) => (2, d.0),
+            Source::Address(a) => (3, a.0),
+        }
+    }
+}
 
 // ---- from a word to a step
 
-// A form that takes one kind of source, and one that takes either of two.
-fn only(kind: u8, wanted: u8, form: Form) -> Made
-    ensures { result ≡ only kind wanted form }
+// The form of an operation with a source and a destination, if they make one.
+fn form_of(operation: Operation, source: Source, destination: u8) -> Option<Form>
+    ensures { result ≡ made_of operation source destination }
 {
-    if kind == wanted {
-        Made::Is(form)
-    } else {
-        Made::NoForm
-    }
-}
-
-fn either(kind: u8, first: u8, form: Form, second: u8, other: Form) -> Made
-    ensures { result ≡ either kind first form second other }
-{
-    if kind == first {
-        Made::Is(form)
-    } else {
-        only(kind, second, other)
-    }
-}
-
-// The form of an operation with a source of this kind and number and a destination.
-fn form_of(operation: Operation, kind: u8, source: u8, destination: u8) -> Made
-    ensures { result ≡ made_of operation kind source destination }
-{
-    let p = D(source);
     let q = D(destination);
     let a = A(destination);
-    match operation {
-        Operation::Two(op) => only(kind, DATA, Form::Two(op, p, q)),
-        Operation::Address(op) => either(
-            kind,
-            DATA,
-            Form::Address(op, Register::Data(p), a),
-            ADDRESS,
-            Form::Address(op, Register::Address(A(source)), a),
-        ),
-        Operation::Quick(op) => only(kind, SMALL, Form::Quick(op, source, Register::Data(q))),
-        Operation::QuickAddress(op) => {
-            only(kind, SMALL, Form::Quick(op, source, Register::Address(a)))
+    match (operation, source) {
+        (Operation::Two(op), Source::Data(p)) => Some(Form::Two(op, p, q)),
+        (Operation::Address(op), Source::Data(p)) => {
+            Some(Form::Address(op, Register::Data(p), a))
         }
-        Operation::One(op) => only(kind, NONE, Form::One(op, q)),
-        Operation::Shift(op) => either(
-            kind,
-            SMALL,
-            Form::Shift(op, Count::Small(source), q),
-            DATA,
-            Form::Shift(op, Count::Data(p), q),
-        ),
-        Operation::Bit(op) => either(
-            kind,
-            SMALL,
-            Form::Bit(op, Count::Small(source), q),
-            DATA,
-            Form::Bit(op, Count::Data(p), q),
-        ),
-        Operation::Chk => only(kind, DATA, Form::Chk(p, q)),
+        (Operation::Address(op), Source::Address(p)) => {
+            Some(Form::Address(op, Register::Address(p), a))
+        }
+        (Operation::Quick(op), Source::Small(k)) => Some(Form::Quick(op, k, Register::Data(q))),
+        (Operation::QuickAddress(op), Source::Small(k)) => {
+            Some(Form::Quick(op, k, Register::Address(a)))
+        }
+        (Operation::One(op), Source::Absent) => Some(Form::One(op, q)),
+        (Operation::Shift(op), Source::Small(k)) => Some(Form::Shift(op, Count::Small(k), q)),
+        (Operation::Shift(op), Source::Data(p)) => Some(Form::Shift(op, Count::Data(p), q)),
+        (Operation::Bit(op), Source::Small(k)) => Some(Form::Bit(op, Count::Small(k), q)),
+        (Operation::Bit(op), Source::Data(p)) => Some(Form::Bit(op, Count::Data(p), q)),
+        (Operation::Chk, Source::Data(p)) => Some(Form::Chk(p, q)),
+        _ => None,
+    }
+}
+
+fn size_at(number: u8) -> Option<Size>
+    ensures { result ≡ size_at number }
+{
+    match number {
+        0 => Some(Size::Byte),
+        1 => Some(Size::Word),
+        2 => Some(Size::Long),
+        _ => None,
     }
 }
 
@@ -99,61 +97,29 @@ pub(crate) fn no_step() -> Step
     }
 }
 
-fn sized(size: u8, form: Form) -> Step
-    ensures { result ≡ sized_of size form }
+// The step that the bytes of a word name, if they name one; its line is not among them.
+#[tactic(auto, using(crate::proofs::Naming::low), unfolding(crate::specs::Words::named))]
+fn named(word: u64) -> Option<Step>
+    ensures { result ≡ named word }
 {
-    match size {
-        0 => Step {
-            size: Size::Byte,
-            form,
-            line: 0,
-        },
-        1 => Step {
-            size: Size::Word,
-            form,
-            line: 0,
-        },
-        2 => Step {
-            size: Size::Long,
-            form,
-            line: 0,
-        },
-        _ => no_step(),
-    }
-}
-
-fn byte(word: u64) -> u8
-    ensures { result ≡ word % byte_radix }
-{
-    (word % 0x100) as u8
-}
-
-// The step that a word names, without its line.
-fn bare_of(word: u64) -> Step
-    ensures { result ≡ bare_of word }
-{
-    let Found::Is(operation) = operation_at(byte(word)) else {
-        return no_step();
-    };
-    let found = form_of(
-        operation,
-        byte(word / 0x1_0000),
-        byte(word / 0x100_0000),
-        byte(word / 0x1_0000_0000),
-    );
-    match found {
-        Made::Is(form) => sized(byte(word / 0x100), form),
-        Made::NoForm => no_step(),
-    }
+    let [operation, size, kind, source, destination, _, _, _] = word.to_le_bytes();
+    let operation = operation_at(operation)?;
+    let source = Source::at(kind, source)?;
+    let form = form_of(operation, source, destination)?;
+    let size = size_at(size)?;
+    Some(Step {
+        size,
+        form,
+        line: 0,
+    })
 }
 
 // The step that a word names. One that names none has its line all the same.
 pub(crate) fn step_of(word: u64) -> Step
     ensures { result ≡ step_of word }
 {
-    let step = bare_of(word);
-    let line = byte(word / 0x100_0000_0000);
-    with_line(step, line)
+    let [_, _, _, _, _, line, _, _] = word.to_le_bytes();
+    with_line(named(word).unwrap_or(no_step()), line)
 }
 
 // ---- from a step to its word
@@ -168,15 +134,6 @@ fn size_number(size: Size) -> u8
     }
 }
 
-fn register_kind(register: Register) -> u8
-    ensures { result ≡ register_kind register }
-{
-    match register {
-        Register::Data(_) => DATA,
-        Register::Address(_) => ADDRESS,
-    }
-}
-
 fn register_number(register: Register) -> u8
     ensures { result ≡ register_number register }
 {
@@ -186,77 +143,51 @@ fn register_number(register: Register) -> u8
     }
 }
 
-fn count_kind(count: Count) -> u8
-    ensures { result ≡ count_kind count }
-{
-    match count {
-        Count::Small(_) => SMALL,
-        Count::Data(_) => DATA,
+impl From<Register> for Source {
+    ghost from_gives = { λ register r. r ≡ of_register register };
+
+    fn from(register: Register) -> Source {
+        match register {
+            Register::Data(d) => Source::Data(d),
+            Register::Address(a) => Source::Address(a),
+        }
     }
 }
 
-fn count_number(count: Count) -> u8
-    ensures { result ≡ count_number count }
-{
-    match count {
-        Count::Small(k) => k,
-        Count::Data(d) => d.0,
+impl From<Count> for Source {
+    ghost from_gives = { λ count r. r ≡ of_count count };
+
+    fn from(count: Count) -> Source {
+        match count {
+            Count::Small(k) => Source::Small(k),
+            Count::Data(d) => Source::Data(d),
+        }
     }
 }
 
-fn source_kind(form: Form) -> u8
-    ensures { result ≡ source_kind form }
+// A form's source, and the number of its destination.
+fn operands(form: Form) -> (Source, u8)
+    ensures { result ≡ (source_of form, destination_number form) }
 {
     match form {
-        Form::Two(_, _, _) => DATA,
-        Form::Address(_, p, _) => register_kind(p),
-        Form::Quick(_, _, _) => SMALL,
-        Form::One(_, _) => NONE,
-        Form::Shift(_, k, _) => count_kind(k),
-        Form::Bit(_, k, _) => count_kind(k),
-        Form::Chk(_, _) => DATA,
-    }
-}
-
-fn source_number(form: Form) -> u8
-    ensures { result ≡ source_number form }
-{
-    match form {
-        Form::Two(_, p, _) => p.0,
-        Form::Address(_, p, _) => register_number(p),
-        Form::Quick(_, k, _) => k,
-        Form::One(_, _) => 0,
-        Form::Shift(_, k, _) => count_number(k),
-        Form::Bit(_, k, _) => count_number(k),
-        Form::Chk(p, _) => p.0,
-    }
-}
-
-fn destination_number(form: Form) -> u8
-    ensures { result ≡ destination_number form }
-{
-    match form {
-        Form::Two(_, _, q) => q.0,
-        Form::Address(_, _, q) => q.0,
-        Form::Quick(_, _, q) => register_number(q),
-        Form::One(_, q) => q.0,
-        Form::Shift(_, _, q) => q.0,
-        Form::Bit(_, _, q) => q.0,
-        Form::Chk(_, q) => q.0,
+        Form::Two(_, p, q) => (Source::Data(p), q.0),
+        Form::Address(_, p, q) => (p.into(), q.0),
+        Form::Quick(_, k, q) => (Source::Small(k), register_number(q)),
+        Form::One(_, q) => (Source::Absent, q.0),
+        Form::Shift(_, k, q) => (k.into(), q.0),
+        Form::Bit(_, k, q) => (k.into(), q.0),
+        Form::Chk(p, q) => (Source::Data(p), q.0),
     }
 }
 
 // A step's word.
+#[tactic(auto, unfolding(crate::specs::Words::step_word))]
 pub(crate) fn step_word(step: Step) -> u64
     ensures { result ≡ step_word step }
 {
-    let size = step.size;
-    let form = step.form;
-    let line = step.line as u64;
-    number(operation_of(form)) as u64
-        + size_number(size) as u64 * 0x100
-        + source_kind(form) as u64 * 0x1_0000
-        + source_number(form) as u64 * 0x100_0000
-        + destination_number(form) as u64 * 0x1_0000_0000
-        + line * 0x100_0000_0000
+    let operation = u8::from(operation_of(step.form));
+    let (source, destination) = operands(step.form);
+    let (kind, source) = source.kind_and_number();
+    let size = size_number(step.size);
+    u64::from_le_bytes([operation, size, kind, source, destination, step.line, 0, 0])
 }

@@ -10,14 +10,16 @@ use mathlib.Core.Path.{◌≡◌, refl, sym, ap, ◌∙◌, subst⁻¹}
 use native.Mathlib.Omega.{arith}
 use borrow.Author.Tests.{leb-true, leb-false, lt-leb, eqb-true, eqb-false, ne_eqb}
 use lib.Dec.{eqb, leb}
+use Rattle.std.specs.Prelude.{Result, Ok, Err, IsOk}
 use Rattle.recipes.specs.declared.types.Verb.{Verb}
 use Rattle.recipes.specs.declared.types.Verb.TheVariants.{Clear, Copy, Add, Sub, Neg, Not, Halve, Down, Up}
 use Rattle.recipes.specs.declared.types.Line.{Line}
 use Rattle.recipes.specs.declared.types.Recipe.{Recipe}
 use Rattle.recipes.specs.declared.types.Refused.{Refused}
-use Rattle.recipes.specs.declared.types.Refusal.TheVariants.{Nothing, NoSuchNumber, OntoItself, TooManyLines, WidthLine}
-use Rattle.recipes.specs.Recipe.{lines_max, passes, at_line, is_nothing, is_copy, target, is_width, recipe_lines, line_refusal, Names, Accepted}
-use Rattle.recipes.specs.Listing.{lines_pass, tested}
+use Rattle.recipes.specs.declared.types.Refusal.{Refusal}
+use Rattle.recipes.specs.declared.types.Refusal.TheVariants.{NoSuchNumber, OntoItself, TooManyLines, WidthLine}
+use Rattle.recipes.specs.Recipe.{lines_max, at_line, is_copy, target, is_width, recipe_lines, line_refusal, Names, Accepted}
+use Rattle.recipes.specs.Listing.{or_refused, lines_pass, tested}
 
 -- a choice between the same
 pub cond_same : {A : Type 0} (t : Bool) (x : A) → cond t x x ≡ x
@@ -26,12 +28,16 @@ cond_same false x = refl
 
 -- ---- lines
 
-pub passes_names : (n : ℕ) (l : Line) → passes (line_refusal n l) ≡ true → Names n l
+-- the tests of 6 and 7, by what each finds
+abbrev pub named_by : (absent onto : Bool) → Result (Unit {0}) Refusal
+named_by absent onto = cond absent (Err NoSuchNumber) (cond onto (Err OntoItself) (Ok tt))
+
+pub passes_names : (n : ℕ) (l : Line) → IsOk (line_refusal n l) → Names n l
 unfolding line_refusal
 passes_names n l e = go (leb n l.a) refl (leb n (target l)) refl (is_copy l.verb) refl (eqb l.a (target l)) refl e
   where
     go : (t : Bool) → leb n l.a ≡ t → (u : Bool) → leb n (target l) ≡ u → (c : Bool) → is_copy l.verb ≡ c → (s : Bool) → eqb l.a (target l) ≡ s
-        → passes (cond (t || u) NoSuchNumber (cond (c && s) OntoItself Nothing)) ≡ true → Names n l
+        → IsOk (named_by (t || u) (c && s)) → Names n l
     go true h u i c d s j e = absurd (false≢true e)
     go false h true i c d s j e = absurd (false≢true e)
     go false h false i true d true j e = absurd (false≢true e)
@@ -51,11 +57,11 @@ is_copy_lem Down e = absurd (false≢true e)
 is_copy_lem Up e = absurd (false≢true e)
 
 -- a line that names numbers passes
-pub names_pass : (n : ℕ) (l : Line) → Names n l → passes (line_refusal n l) ≡ true
+pub names_pass : (n : ℕ) (l : Line) → Names n l → line_refusal n l ≡ Ok tt
 unfolding line_refusal
 names_pass n l h = rw (lt-leb n l.a h.source, lt-leb n (target l) h.goal) (go (is_copy l.verb) refl)
   where
-    go : (c : Bool) → is_copy l.verb ≡ c → passes (cond (c && eqb l.a (target l)) OntoItself Nothing) ≡ true
+    go : (c : Bool) → is_copy l.verb ≡ c → named_by false (c && eqb l.a (target l)) ≡ Ok tt
     go true d = rw (ne_eqb l.a (target l) (h.apart (is_copy_lem l.verb d)))
     go false d = refl
 
@@ -83,20 +89,18 @@ pub record Good (r : Recipe) : Type 0 where
   pub lines : Accepted r.width (recipe_lines r)
 
 module _ {R S : Type 0} (P : R → S → Type 0) (refuse : Refused → R) (reject : Refused → S)
-    (alike : (k : Refused) → is_nothing k ≡ false → P (refuse k) (reject k))
+    (alike : (k : Refused) → P (refuse k) (reject k))
   where
     lines_agree : (w line : ℕ) (ls : List Line) (go : R) (gone : S) → (Accepted w ls → P go gone) → P (lines_pass refuse (8 / w) line ls go) (lines_pass reject (8 / w) line ls gone)
     unfolding lines_pass
     lines_agree w line [] go gone h = h tt
     lines_agree w line (l ∷ ls) go gone h =
-        by (passes (line_refusal (8 / w) l)) refl (λ e. lines_agree w (suc line) ls go gone (λ more. h (passes_names (8 / w) l e, more)))
+        by (line_refusal (8 / w) l) (λ e. lines_agree w (suc line) ls go gone (λ more. h (passes_names (8 / w) l e, more)))
       where
-        by : (t : Bool) → passes (line_refusal (8 / w) l) ≡ t
-            → (t ≡ true → P (lines_pass refuse (8 / w) (suc line) ls go) (lines_pass reject (8 / w) (suc line) ls gone))
-            → P (cond t (lines_pass refuse (8 / w) (suc line) ls go) (refuse (at_line (line_refusal (8 / w) l) line)))
-            (cond t (lines_pass reject (8 / w) (suc line) ls gone) (reject (at_line (line_refusal (8 / w) l) line)))
-        by true e more = more refl
-        by false e more = alike (at_line (line_refusal (8 / w) l) line) e
+        by : (t : Result (Unit {0}) Refusal) → (IsOk t → P (lines_pass refuse (8 / w) (suc line) ls go) (lines_pass reject (8 / w) (suc line) ls gone))
+            → P (or_refused refuse t line (lines_pass refuse (8 / w) (suc line) ls go)) (or_refused reject t line (lines_pass reject (8 / w) (suc line) ls gone))
+        by (Ok passed) more = more refl
+        by (Err k) more = alike (at_line k line)
 
     pub tests_agree : (r : Recipe) (go : R) (gone : S) → (Good r → P go gone) → P (tested refuse r go) (tested reject r gone)
     tests_agree r go gone h = width (is_width r.width) refl
@@ -104,10 +108,10 @@ module _ {R S : Type 0} (P : R → S → Type 0) (refuse : Refused → R) (rejec
         few : (t : Bool) → leb r.count lines_max ≡ t → is_width r.width ≡ true
             → P (cond t (lines_pass refuse (8 / r.width) 2 (recipe_lines r) go) (refuse (at_line TooManyLines 0))) (cond t (lines_pass reject (8 / r.width) 2 (recipe_lines r) gone) (reject (at_line TooManyLines 0)))
         few true e w = lines_agree r.width 2 (recipe_lines r) go gone (λ a. h (record { width = w; few = leb-true r.count lines_max e; lines = a }))
-        few false e w = alike (at_line TooManyLines 0) refl
+        few false e w = alike (at_line TooManyLines 0)
 
         width : (t : Bool) → is_width r.width ≡ t
             → P (cond t (cond (leb r.count lines_max) (lines_pass refuse (8 / r.width) 2 (recipe_lines r) go) (refuse (at_line TooManyLines 0))) (refuse (at_line WidthLine 1)))
             (cond t (cond (leb r.count lines_max) (lines_pass reject (8 / r.width) 2 (recipe_lines r) gone) (reject (at_line TooManyLines 0))) (reject (at_line WidthLine 1)))
         width true e = few (leb r.count lines_max) refl e
-        width false e = alike (at_line WidthLine 1) refl
+        width false e = alike (at_line WidthLine 1)

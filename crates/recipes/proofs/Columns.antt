@@ -3,26 +3,25 @@
 --     column_none     the column of an accepted text is 0
 --     column_points   that of a refused one points at a byte of its line or one past it; for 14 the text ends there
 use Prim.Native.Nat.{ℕ, suc, ◌+◌, ◌/◌, ◌≤◌, ◌<◌}
-use mathlib.Core.Bool.{Bool, true, false, cond, ◌||◌, ◌&&◌, false≢true, true≢false}
+use mathlib.Core.Bool.{Bool, true, false, cond, ◌||◌, ◌&&◌, false≢true}
 use mathlib.Core.List.{List, [], ◌∷◌, ◌++◌}
-use mathlib.Core.Path.{◌≡◌, refl, sym, ap, ◌∙◌}
+use mathlib.Core.Path.{◌≡◌, refl, sym, ap, ◌∙◌, subst}
 use native.Mathlib.Omega.{arith}
 use borrow.Author.Tests.{lt-ltb}
 use lib.Dec.{eqb, leb, ltb}
 use lib.ListN.{length, get_or, length-append}
+use Rattle.std.specs.Prelude.{Option, Some, None, Result, Ok, Err}
 use Rattle.recipes.specs.declared.types.Verb.{Verb}
 use Rattle.recipes.specs.declared.types.Line.{Line}
+use Rattle.recipes.specs.declared.types.Recipe.{Recipe}
 use Rattle.recipes.specs.declared.types.Refusal.{Refusal}
-use Rattle.recipes.specs.declared.types.Refusal.TheVariants.{Nothing, WidthLine, NoSuchNumber, OntoItself, TooManyLines, WrongFields, NotADigit, NoNewline}
+use Rattle.recipes.specs.declared.types.Refusal.TheVariants.{WidthLine, TooManyLines, WrongFields, NotADigit, NoNewline}
 use Rattle.recipes.specs.declared.types.Refused.{Refused}
-use Rattle.recipes.specs.declared.reader.LineRead.{LineRead}
-use Rattle.recipes.specs.declared.reader.LineRead.TheVariants.{Read, Slip}
-use Rattle.std.specs.Prelude.{Option, Some, None}
-use Rattle.recipes.specs.declared.reader.VerbRead.{VerbRead}
-use Rattle.recipes.specs.declared.reader.VerbRead.TheVariants.{Known, Unknown}
+use Rattle.recipes.specs.declared.reader.Slip.{Slip}
 use Rattle.text.specs.Text.{before, after, parts, digit_of}
-use Rattle.recipes.specs.Recipe.{lines_max, number_of, passes, is_nothing, takes_two, is_copy, target, line_refusal}
-use Rattle.recipes.specs.Reader.{verb_of, past, with_one, with_two, one_field, two_fields, fields_of, line_checked, then_checked, line_of, or_slip, lines_of, refused_at, width_line, from_first, read_of}
+use Rattle.recipes.specs.Recipe.{lines_max, number_of, takes_two, is_copy, target, line_refusal}
+use Rattle.recipes.proofs.Accepting.{named_by}
+use Rattle.recipes.specs.Reader.{verb_of, past, with_one, with_two, one_field, two_fields, fields_of, if_passes, line_checked, then_checked, line_of, or_slip, lines_of, refused_at, width_line, with_width, from_first, read_of}
 
 -- ---- the parts of a text
 
@@ -49,20 +48,19 @@ past_first f = omega arith
 
 -- a refusal k at column c, in a line of `len` bytes that has its byte 10: a column exactly if it is 11 to 13, and never 14
 pub record Slipped (len : ℕ) (k : Refusal) (c : ℕ) : Type 0 where
-  pub some : passes k ≡ false
   pub told : ltb 0 c ≡ leb 11 (number_of k)
   pub within : c ≤ len + 1
   pub whole : ltb (number_of k) 14 ≡ true
 
-abbrev pub Slips : (len : ℕ) → LineRead → Type 0
-Slips len (Slip k c) = Slipped len k c
-Slips len (Read l) = Unit {0}
+abbrev pub Slips : (len : ℕ) → Result Line Slip → Type 0
+Slips len (Err s) = Slipped len s.refusal s.column
+Slips len (Ok l) = Unit {0}
 
 wrong : {len : ℕ} (c : ℕ) → 0 < c → c ≤ len + 1 → Slipped len WrongFields c
-wrong c h l = record { some = refl; told = lt-ltb 0 c h; within = l; whole = refl }
+wrong c h l = record { told = lt-ltb 0 c h; within = l; whole = refl }
 
 no_digit : {len : ℕ} (c : ℕ) → 0 < c → c ≤ len + 1 → Slipped len NotADigit c
-no_digit c h l = record { some = refl; told = lt-ltb 0 c h; within = l; whole = refl }
+no_digit c h l = record { told = lt-ltb 0 c h; within = l; whole = refl }
 
 module _ (len : ℕ) (v : Verb) where
   one_slips : (c : ℕ) (d : Option ℕ) → 0 < c → c ≤ len + 1 → Slips len (with_one v c d)
@@ -72,8 +70,7 @@ module _ (len : ℕ) (v : Verb) where
   two_slips : (c e : ℕ) (d f : Option ℕ) → 0 < c → c ≤ e → e ≤ len + 1 → Slips len (with_two v c e d f)
   two_slips c e (Some a) (Some b) h i l = tt
   two_slips c e (Some a) None h i l = no_digit e (omega arith) l
-  two_slips c e None (Some b) h i l = no_digit c h (omega arith)
-  two_slips c e None None h i l = no_digit c h (omega arith)
+  two_slips c e None f h i l = no_digit c h (omega arith)
 
   single_slips : (at : ℕ) (fields : List (List ℕ)) → 0 < at → at + behind fields ≤ len + 1 → Slips len (one_field v at fields)
   single_slips at [] h l = wrong at h (omega arith)
@@ -86,9 +83,9 @@ module _ (len : ℕ) (v : Verb) where
   pair_slips at (f ∷ g ∷ []) h l = two_slips (at + 1) (past at f + 1) (digit_of f) (digit_of g) (omega arith) (omega arith) (omega arith)
   pair_slips at (f ∷ g ∷ i ∷ more) h l = wrong (past (past at f) g + 1) (omega arith) (omega arith)
 
-fields_slip : (len : ℕ) (r : VerbRead) (at : ℕ) (fields : List (List ℕ)) → 0 < at → at + behind fields ≤ len + 1 → Slips len (fields_of r at fields)
-fields_slip len Unknown at fields h l = record { some = refl; told = refl; within = omega arith; whole = refl }
-fields_slip len (Known v) at fields h l = go (takes_two v)
+fields_slip : (len : ℕ) (r : Option Verb) (at : ℕ) (fields : List (List ℕ)) → 0 < at → at + behind fields ≤ len + 1 → Slips len (fields_of r at fields)
+fields_slip len None at fields h l = record { told = refl; within = omega arith; whole = refl }
+fields_slip len (Some v) at fields h l = go (takes_two v)
   where
     go : (t : Bool) → Slips len (cond t (two_fields v at fields) (one_field v at fields))
     go true = pair_slips len v at fields h l
@@ -99,16 +96,16 @@ checked_slips : (len n : ℕ) (l : Line) → Slips len (line_checked n l)
 unfolding line_refusal
 checked_slips len n l = go (leb n l.a) (leb n (target l)) (is_copy l.verb) (eqb l.a (target l))
   where
-    go : (t u c s : Bool) → let k = cond (t || u) NoSuchNumber (cond (c && s) OntoItself Nothing) in Slips len (cond (passes k) (Read l) (Slip k 0))
-    go true u c s = record { some = refl; told = refl; within = omega arith; whole = refl }
-    go false true c s = record { some = refl; told = refl; within = omega arith; whole = refl }
-    go false false true true = record { some = refl; told = refl; within = omega arith; whole = refl }
+    go : (t u c s : Bool) → Slips len (if_passes l (named_by (t || u) (c && s)))
+    go true u c s = record { told = refl; within = omega arith; whole = refl }
+    go false true c s = record { told = refl; within = omega arith; whole = refl }
+    go false false true true = record { told = refl; within = omega arith; whole = refl }
     go false false true false = tt
     go false false false s = tt
 
-then_slips : (len n : ℕ) (c : LineRead) → Slips len c → Slips len (then_checked n c)
-then_slips len n (Slip k c) h = h
-then_slips len n (Read l) h = checked_slips len n l
+then_slips : (len n : ℕ) (c : Result Line Slip) → Slips len c → Slips len (then_checked n c)
+then_slips len n (Err s) h = h
+then_slips len n (Ok l) h = checked_slips len n l
 
 pub line_slips : (n : ℕ) (row : List ℕ) → Slips (length row) (line_of n row)
 unfolding line_of
@@ -128,87 +125,93 @@ pub record Points (first : ℕ) (rows : List (List ℕ)) (r : Refused) : Type 0 
   pub within : r.column ≤ length (get_or rows index []) + 1
   pub ends : number_of r.refusal ≡ 14 → (length rows ≡ suc index) × (r.column ≡ length (get_or rows index []) + 1)
 
-abbrev Told : (first : ℕ) (rows : List (List ℕ)) → Refused → Type 0
-Told first rows r = (is_nothing r ≡ true → r.column ≡ 0) × (is_nothing r ≡ false → Points first rows r)
+abbrev Told : (first : ℕ) (rows : List (List ℕ)) → Result Recipe Refused → Type 0
+Told first rows (Ok r) = Unit {0}
+Told first rows (Err k) = Points first rows k
 
 -- one of the first row that is not 14
-here : (first : ℕ) (row : List ℕ) (rows : List (List ℕ)) (k : Refusal) (c : ℕ) → Slipped (length row) k c → Told first (row ∷ rows) (refused_at k first c).refused
-here first row rows k c s = (
-  λ e. absurd (false≢true (sym s.some ∙ e)),
-  λ e. record {
-    index = 0;
-    among = omega arith;
-    line = omega arith;
-    told = s.told;
-    within = omega (arith, s.within);
-    ends = λ is. absurd (false≢true (ap (λ (n : ℕ). ltb n 14) (sym is) ∙ s.whole));
-  },
-)
+here : (first : ℕ) (row : List ℕ) (rows : List (List ℕ)) (k : Refusal) (c : ℕ) → Slipped (length row) k c → Told first (row ∷ rows) (refused_at k first c)
+here first row rows k c s = record {
+  index = 0;
+  among = omega arith;
+  line = omega arith;
+  told = s.told;
+  within = omega (arith, s.within);
+  ends = λ is. absurd (false≢true (ap (λ (n : ℕ). ltb n 14) (sym is) ∙ s.whole));
+}
 
 -- one of a later row
-later : (first next : ℕ) (row : List ℕ) (rows : List (List ℕ)) (r : Refused) → next ≡ suc first → Told next rows r → Told first (row ∷ rows) r
-later first next row rows r is t = (
-  t.0,
-  λ e. let p = t.1 e in record {
-    index = suc p.index;
-    among = omega (arith, p.among);
-    line = omega (arith, p.line);
-    told = p.told;
-    within = p.within;
-    ends = λ fourteen. (ap suc (p.ends fourteen).0, (p.ends fourteen).1);
-  },
-)
+later : (first next : ℕ) (row : List ℕ) (rows : List (List ℕ)) (r : Result Recipe Refused) → next ≡ suc first → Told next rows r → Told first (row ∷ rows) r
+later first next row rows (Ok r) is p = tt
+later first next row rows (Err k) is p = record {
+  index = suc p.index;
+  among = omega (arith, p.among);
+  line = omega (arith, p.line);
+  told = p.told;
+  within = p.within;
+  ends = λ fourteen. (ap suc (p.ends fourteen).0, (p.ends fourteen).1);
+}
 
 many : (len : ℕ) → Slipped len TooManyLines 0
-many len = record { some = refl; told = refl; within = omega arith; whole = refl }
+many len = record { told = refl; within = omega arith; whole = refl }
 
 no_width : (len : ℕ) → Slipped len WidthLine 0
-no_width len = record { some = refl; told = refl; within = omega arith; whole = refl }
+no_width len = record { told = refl; within = omega arith; whole = refl }
 
-lines_told : (w : ℕ) (ls : List Line) (row : List ℕ) (more : List (List ℕ)) → Told (length ls + 2) (row ∷ more) (lines_of w ls row more).refused
+lines_told : (w : ℕ) (ls : List Line) (row : List ℕ) (more : List (List ℕ)) → Told (length ls + 2) (row ∷ more) (lines_of w ls row more)
 unfolding lines_of
-lines_told w ls [] [] = (λ e. refl, λ e. absurd (true≢false e))
+lines_told w ls [] [] = tt
 lines_told w ls (x ∷ xs) [] = go (eqb (length ls) lines_max)
   where
-    go : (t : Bool) → Told (length ls + 2) ((x ∷ xs) ∷ []) (cond t (refused_at TooManyLines (length ls + 2) 0) (refused_at NoNewline (length ls + 2) (past 0 (x ∷ xs)))).refused
+    go : (t : Bool) → Told (length ls + 2) ((x ∷ xs) ∷ []) (cond t (refused_at TooManyLines (length ls + 2) 0) (refused_at NoNewline (length ls + 2) (past 0 (x ∷ xs))))
     go true = here (length ls + 2) (x ∷ xs) [] TooManyLines 0 (many (length (x ∷ xs)))
-    go false = (
-      λ e. absurd (false≢true e),
-      λ e. record {
-        index = 0;
-        among = omega arith;
-        line = omega arith;
-        told = lt-ltb 0 (past 0 (x ∷ xs)) (omega arith);
-        within = omega arith;
-        ends = λ is. (refl, omega arith);
-      },
-    )
+    go false = record {
+      index = 0;
+      among = omega arith;
+      line = omega arith;
+      told = lt-ltb 0 (past 0 (x ∷ xs)) (omega arith);
+      within = omega arith;
+      ends = λ is. (refl, omega arith);
+    }
 lines_told w ls row (next ∷ more) = full (eqb (length ls) lines_max) (λ l. lines_told w (ls ++ (l ∷ [])) next more)
   where
-    by : (c : LineRead) → Slips (length row) c → ((l : Line) → Told (length (ls ++ (l ∷ [])) + 2) (next ∷ more) (lines_of w (ls ++ (l ∷ [])) next more).refused)
-        → Told (length ls + 2) (row ∷ next ∷ more) (or_slip c (length ls + 2) (λ l. lines_of w (ls ++ (l ∷ [])) next more)).refused
-    by (Slip k c) s go = here (length ls + 2) row (next ∷ more) k c s
-    by (Read l) s go = later (length ls + 2) (length (ls ++ (l ∷ [])) + 2) row (next ∷ more) _ (rw length-append (omega arith)) (go l)
+    by : (c : Result Line Slip) → Slips (length row) c → ((l : Line) → Told (length (ls ++ (l ∷ [])) + 2) (next ∷ more) (lines_of w (ls ++ (l ∷ [])) next more))
+        → Told (length ls + 2) (row ∷ next ∷ more) (or_slip c (length ls + 2) (λ l. lines_of w (ls ++ (l ∷ [])) next more))
+    by (Err k) s go = here (length ls + 2) row (next ∷ more) k.refusal k.column s
+    by (Ok l) s go = later (length ls + 2) (length (ls ++ (l ∷ [])) + 2) row (next ∷ more) _ (rw length-append (omega arith)) (go l)
 
-    full : (t : Bool) → ((l : Line) → Told (length (ls ++ (l ∷ [])) + 2) (next ∷ more) (lines_of w (ls ++ (l ∷ [])) next more).refused)
-        → Told (length ls + 2) (row ∷ next ∷ more) (cond t (refused_at TooManyLines (length ls + 2) 0) (or_slip (line_of (8 / w) row) (length ls + 2) (λ l. lines_of w (ls ++ (l ∷ [])) next more))).refused
+    full : (t : Bool) → ((l : Line) → Told (length (ls ++ (l ∷ [])) + 2) (next ∷ more) (lines_of w (ls ++ (l ∷ [])) next more))
+        → Told (length ls + 2) (row ∷ next ∷ more) (cond t (refused_at TooManyLines (length ls + 2) 0) (or_slip (line_of (8 / w) row) (length ls + 2) (λ l. lines_of w (ls ++ (l ∷ [])) next more)))
     full true go = here (length ls + 2) row (next ∷ more) TooManyLines 0 (many (length row))
     full false go = by (line_of (8 / w) row) (line_slips (8 / w) row) go
 
-text_told : (text : List ℕ) → Told 1 (parts 10 text) (read_of text).refused
+text_told : (text : List ℕ) → Told 1 (parts 10 text) (read_of text)
 unfolding read_of
 text_told text = first (before 10 text) (after 10 text)
   where
-    first : (row : List ℕ) (more : List (List ℕ)) → Told 1 (row ∷ more) (from_first row more).refused
+    first : (row : List ℕ) (more : List (List ℕ)) → Told 1 (row ∷ more) (from_first row more)
     first row [] = here 1 row [] WidthLine 0 (no_width (length row))
-    first row (next ∷ more) = go (eqb (width_line row) 0)
+    first row (next ∷ more) = go (width_line row)
       where
-        go : (t : Bool) → Told 1 (row ∷ next ∷ more) (cond t (refused_at WidthLine 1 0) (lines_of (width_line row) [] next more)).refused
-        go true = here 1 row (next ∷ more) WidthLine 0 (no_width (length row))
-        go false = later 1 2 row (next ∷ more) _ refl (lines_told (width_line row) [] next more)
+        go : (w : Option ℕ) → Told 1 (row ∷ next ∷ more) (with_width w next more)
+        go None = here 1 row (next ∷ more) WidthLine 0 (no_width (length row))
+        go (Some w) = later 1 2 row (next ∷ more) _ refl (lines_told w [] next more)
 
-pub column_none : (text : List ℕ) → is_nothing (read_of text).refused ≡ true → (read_of text).refused.column ≡ 0
-column_none text = (text_told text).0
+-- what is told of a reading: a refusal's number, line and column, and 0 where nothing is refused
+abbrev pub number_in : Result Recipe Refused → ℕ
+number_in (Ok r) = 0
+number_in (Err k) = number_of k.refusal
 
-pub column_points : (text : List ℕ) → is_nothing (read_of text).refused ≡ false → Points 1 (parts 10 text) (read_of text).refused
-column_points text = (text_told text).1
+abbrev pub line_in : Result Recipe Refused → ℕ
+line_in (Ok r) = 0
+line_in (Err k) = k.line
+
+abbrev pub column_in : Result Recipe Refused → ℕ
+column_in (Ok r) = 0
+column_in (Err k) = k.column
+
+pub column_none : (text : List ℕ) (r : Recipe) → read_of text ≡ Ok r → column_in (read_of text) ≡ 0
+column_none text r e = ap column_in e
+
+pub column_points : (text : List ℕ) (k : Refused) → read_of text ≡ Err k → Points 1 (parts 10 text) k
+column_points text k e = subst (Told 1 (parts 10 text)) e (text_told text)

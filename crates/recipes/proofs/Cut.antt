@@ -6,33 +6,32 @@
 --     cut_reads      they are read as the text is, unless they are refused with 14; cut_answers: and answered
 --     cut_slips      where they are, the text is refused with one of 11 to 14
 use Prim.Native.Nat.{ℕ, ◌+◌, ◌*◌, ◌/◌, ◌≤◌, ◌<◌}
-use mathlib.Core.Bool.{Bool, true, false, cond, and-false, false≢true}
+use mathlib.Core.Bool.{Bool, true, false, cond, false≢true}
 use mathlib.Core.List.{List, [], ◌∷◌, ◌++◌, append-nil}
 use mathlib.Core.Logic.{◌⊎◌, inl, inr, ⊎_elim}
 use mathlib.Core.Path.{◌≡◌, refl, sym, ap, ap₂, ◌∙◌, subst, subst⁻¹}
 use native.Mathlib.Decide.{dec_le}
-use native.Mathlib.Nat.{not-suc-le-zero, le_of_suc-le-suc, eq-or-lt_of_le}
+use native.Mathlib.Nat.{eq-or-lt_of_le}
 use native.Mathlib.Omega.{arith}
-use borrow.Author.Tests.{eq-eqb, ne_eqb, eqb-false}
+use borrow.Author.Tests.{eq-eqb, ne_eqb}
 use lib.Dec.{eqb, leb, ltb}
 use lib.ListN.{length, take, drop, length-append, length-take, take-append-drop}
 use lib.Seq.{take_all}
+use Rattle.std.specs.Prelude.{Option, Some, None, Result, Ok, Err, is_err, IsErr}
 use Rattle.recipes.specs.declared.types.Verb.{Verb}
 use Rattle.recipes.specs.declared.types.Line.{Line}
-use Rattle.recipes.specs.declared.types.Reading.{Reading}
+use Rattle.recipes.specs.declared.types.Recipe.{Recipe}
+use Rattle.recipes.specs.declared.types.Refused.{Refused}
 use Rattle.recipes.specs.declared.types.Refusal.{Refusal}
-use Rattle.recipes.specs.declared.types.Refusal.TheVariants.{Nothing, WidthLine, NoSuchNumber, OntoItself, TooManyLines, NoSpace, UnknownVerb, WrongFields, NotADigit, NoNewline}
-use Rattle.recipes.specs.declared.reader.VerbRead.{VerbRead}
-use Rattle.recipes.specs.declared.reader.VerbRead.TheVariants.{Known, Unknown}
-use Rattle.std.specs.Prelude.{Option, Some, None}
-use Rattle.recipes.specs.declared.reader.LineRead.{LineRead}
-use Rattle.recipes.specs.declared.reader.LineRead.TheVariants.{Read, Slip}
-use Rattle.text.specs.Text.{ascii, same_bytes, before, after, digit_of}
-use Rattle.recipes.specs.Recipe.{lines_max, number_of, passes, is_nothing, takes_two}
-use Rattle.recipes.specs.Reader.{refused_at, verb_of, past, only_digit, with_two, one_field, two_fields, fields_of, then_checked, line_of, or_slip, lines_of, width_line, from_first, read_of}
+use Rattle.recipes.specs.declared.types.Refusal.TheVariants.{WidthLine, TooManyLines, NoNewline}
+use Rattle.recipes.specs.declared.reader.Slip.{Slip}
+use Rattle.text.specs.Text.{ascii, before, after, digit_of}
+use Rattle.recipes.specs.Recipe.{lines_max, number_of, at_column, takes_two}
+use Rattle.recipes.specs.Reader.{refused_at, verb_of, past, only_digit, with_two, one_field, two_fields, fields_of, then_checked, line_of, or_slip, lines_of, width_line, with_width, from_first, read_of}
 use Rattle.recipes.specs.Printer.{text_max, reading_printed, answer_of}
 use Rattle.recipes.proofs.Accepting.{cond_same}
-use Rattle.recipes.proofs.Columns.{behind, parts_size, Slips, line_slips}
+use Rattle.recipes.proofs.Words.{differs, long_word}
+use Rattle.recipes.proofs.Columns.{behind, parts_size, Slips, line_slips, number_in, line_in}
 use Rattle.recipes.proofs.LineByLine.{lines_cut, lines_next}
 
 or_less : (a b : ℕ) → (a ≤ b) ⊎ (b < a)
@@ -70,20 +69,6 @@ parts_on (x ∷ p) s = go (eqb x 10) (parts_on p s)
 
 -- ---- a row of 10 bytes or more is no line
 
-differs : (xs ys : List ℕ) → length ys < length xs → same_bytes xs ys ≡ false
-unfolding same_bytes
-differs [] ys h = absurd (not-suc-le-zero h)
-differs (x ∷ xs) [] h = refl
-differs (x ∷ xs) (y ∷ ys) h = rw (differs xs ys (le_of_suc-le-suc h)) (and-false (eqb x y))
-
-long_word : (word : List ℕ) → 6 ≤ length word → verb_of word ≡ Unknown
-unfolding verb_of
-long_word word h =
-    let four : 5 ≤ length word = omega arith in
-    let three : 4 ≤ length word = omega arith in
-    let two : 3 ≤ length word = omega arith in
-    simp differs
-
 long_digit : (field : List ℕ) → 2 ≤ length field → digit_of field ≡ None
 unfolding digit_of
 long_digit field h = rw (ne_eqb (length field) 1 (λ e. omega arith))
@@ -97,9 +82,9 @@ long_one (f ∷ g ∷ more) h = refl
 abbrev pub named : Refusal → Bool
 named k = leb 11 (number_of k)
 
-abbrev Misread : LineRead → Type 0
-Misread (Slip k c) = named k ≡ true
-Misread (Read l) = ⊥
+abbrev Misread : Result Line Slip → Type 0
+Misread (Err s) = named s.refusal ≡ true
+Misread (Ok l) = ⊥
 
 second_bad : (v : Verb) (c e : ℕ) (d : Option ℕ) → Misread (with_two v c e d None)
 second_bad v c e (Some a) = refl
@@ -118,17 +103,17 @@ module _ (v : Verb) (at : ℕ) where
       ⊎_elim (λ l. rw (long_digit f l) refl) (λ l. rw (long_digit g (omega arith)) (second_bad v (at + 1) (past at f + 1) (digit_of f))) (or_less 2 (length f))
   pair_misread (f ∷ g ∷ i ∷ more) h = refl
 
-fields_misread : (r : VerbRead) (at : ℕ) (fields : List (List ℕ)) → 5 ≤ behind fields → Misread (fields_of r at fields)
-fields_misread Unknown at fields h = refl
-fields_misread (Known v) at fields h = go (takes_two v)
+fields_misread : (r : Option Verb) (at : ℕ) (fields : List (List ℕ)) → 5 ≤ behind fields → Misread (fields_of r at fields)
+fields_misread None at fields h = refl
+fields_misread (Some v) at fields h = go (takes_two v)
   where
     go : (t : Bool) → Misread (cond t (two_fields v at fields) (one_field v at fields))
     go true = pair_misread v at fields h
     go false = single_misread v at fields h
 
-then_misread : (n : ℕ) (c : LineRead) → Misread c → Misread (then_checked n c)
-then_misread n (Slip k c) h = h
-then_misread n (Read l) h = absurd h
+then_misread : (n : ℕ) (c : Result Line Slip) → Misread c → Misread (then_checked n c)
+then_misread n (Err s) h = h
+then_misread n (Ok l) h = absurd h
 
 -- its first field is no word, or there is too much behind it
 long_row : (n : ℕ) (row : List ℕ) → 10 ≤ length row → Misread (line_of n row)
@@ -138,7 +123,7 @@ long_row n row h =
     (⊎_elim (λ l. rw (long_word (before 9 row) l) refl) (λ l. fields_misread (verb_of (before 9 row)) (past 0 (before 9 row)) (after 9 row) (omega (arith, parts_size 9 row)))
     (or_less 6 (length (before 9 row))))
 
-long_width : (row : List ℕ) → 10 ≤ length row → width_line row ≡ 0
+long_width : (row : List ℕ) → 10 ≤ length row → width_line row ≡ None
 unfolding width_line
 long_width row h =
     ⊎_elim (λ l. rw (differs (before 9 row) (ascii "width") l)) (λ l. rw (long_one (after 9 row) (omega (arith, parts_size 9 row)), cond_same))
@@ -147,48 +132,34 @@ long_width row h =
 -- ---- a text that is refused, whatever follows
 
 -- it is refused on the same line; by the same number and column, or else by one of 11 to 14, of which 14 stands where nothing follows
-record Met (read : List ℕ → Reading) : Type 0 where
+record Met (read : List ℕ → Result Recipe Refused) : Type 0 where
+  refused : List ℕ → Refused
+  is : (s : List ℕ) → read s ≡ Err (refused s)
   line : ℕ
-  some : (s : List ℕ) → is_nothing (read s).refused ≡ false
-  lines : (s : List ℕ) → (read s).refused.line ≡ line
-  same : (number_of (read []).refused.refusal ≡ 14 → ⊥) → (s : List ℕ) → read s ≡ read []
-  slips : number_of (read []).refused.refusal ≡ 14 → (s : List ℕ) → named (read s).refused.refusal ≡ true
+  lines : (s : List ℕ) → (refused s).line ≡ line
+  same : (number_of (refused []).refusal ≡ 14 → ⊥) → (s : List ℕ) → refused s ≡ refused []
+  slips : number_of (refused []).refusal ≡ 14 → (s : List ℕ) → named (refused s).refusal ≡ true
 
 -- a refusal that is the same, and one that is met later
-met : {read : List ℕ → Reading} (k : Refusal) (line column : ℕ) → passes k ≡ false → (number_of k ≡ 14 → ⊥) → ((s : List ℕ) → read s ≡ refused_at k line column) → Met read
-met k line column n apart f = record {
+met : {read : List ℕ → Result Recipe Refused} (k : Refusal) (line column : ℕ) → (number_of k ≡ 14 → ⊥) → ((s : List ℕ) → read s ≡ refused_at k line column) → Met read
+met k line column apart f = record {
+  refused = λ s. at_column k line column;
+  is = f;
   line = line;
-  some = λ s. ap (λ (r : Reading). is_nothing r.refused) (f s) ∙ n;
-  lines = λ s. ap (λ (r : Reading). r.refused.line) (f s);
-  same = λ e s. f s ∙ sym (f []);
-  slips = λ e. absurd (apart (sym (ap (λ (r : Reading). number_of r.refused.refusal) (f [])) ∙ e));
+  lines = λ s. refl;
+  same = λ e s. refl;
+  slips = λ e. absurd (apart e);
 }
 
-later : {read rest : List ℕ → Reading} → ((s : List ℕ) → read s ≡ rest s) → Met rest → Met read
-later {read} {rest} f m = record {
-  line = m.line;
-  some = λ s. ap (λ (r : Reading). is_nothing r.refused) (f s) ∙ m.some s;
-  lines = λ s. ap (λ (r : Reading). r.refused.line) (f s) ∙ m.lines s;
-  same = λ e s. f s ∙ m.same (λ is. e (ap (λ (r : Reading). number_of r.refused.refusal) (f []) ∙ is)) s ∙ sym (f []);
-  slips = λ e s. ap (λ (r : Reading). named r.refused.refusal) (f s) ∙ m.slips (sym (ap (λ (r : Reading). number_of r.refused.refusal) (f [])) ∙ e) s;
-}
+later : {read rest : List ℕ → Result Recipe Refused} → ((s : List ℕ) → read s ≡ rest s) → Met rest → Met read
+later f m = record { refused = m.refused; is = λ s. f s ∙ m.is s; line = m.line; lines = m.lines; same = m.same; slips = m.slips }
 
 -- refused by one of 11 to 14 on this line
-record Named (line : ℕ) (r : Reading) : Type 0 where
-  there : r.refused.line ≡ line
-  one : named r.refused.refusal ≡ true
-
-named_some : (k : Refusal) → named k ≡ true → passes k ≡ false
-named_some Nothing e = absurd (false≢true e)
-named_some WidthLine e = refl
-named_some NoSuchNumber e = refl
-named_some OntoItself e = refl
-named_some TooManyLines e = refl
-named_some NoSpace e = refl
-named_some UnknownVerb e = refl
-named_some WrongFields e = refl
-named_some NotADigit e = refl
-named_some NoNewline e = refl
+record Named (line : ℕ) (r : Result Recipe Refused) : Type 0 where
+  refused : Refused
+  is : r ≡ Err refused
+  there : refused.line ≡ line
+  one : named refused.refusal ≡ true
 
 module _ (w : ℕ) (ls : List Line) where
   -- behind `lines_max` lines
@@ -200,12 +171,12 @@ module _ (w : ℕ) (ls : List Line) where
 
   -- a row of 10 bytes or more, with or without its byte 10
   last : (row : List ℕ) (more : List (List ℕ)) → length ls < lines_max → 10 ≤ length row → Named (length ls + 2) (lines_of w ls row more)
-  last row [] l h = rw (lines_cut w ls row (omega arith) l) (record { there = refl; one = refl })
+  last row [] l h = rw (lines_cut w ls row (omega arith) l) (record { refused = at_column NoNewline (length ls + 2) (past 0 row); is = refl; there = refl; one = refl })
   last row (next ∷ more) l h = rw (lines_next w ls row next more l) (go (line_of (8 / w) row) (long_row (8 / w) row h))
     where
-      go : (c : LineRead) → Misread c → Named (length ls + 2) (or_slip c (length ls + 2) (λ l. lines_of w (ls ++ (l ∷ [])) next more))
-      go (Slip k c) m = record { there = refl; one = m }
-      go (Read l) m = absurd m
+      go : (c : Result Line Slip) → Misread c → Named (length ls + 2) (or_slip c (length ls + 2) (λ l. lines_of w (ls ++ (l ∷ [])) next more))
+      go (Err s) m = record { refused = at_column s.refusal (length ls + 2) s.column; is = refl; there = refl; one = m }
+      go (Ok l) m = absurd m
 
   -- the text ends in such a row
   open_row : (row : List ℕ) → length ls < lines_max → 10 ≤ length row → Met (λ s. lines_of w ls (row ++ before 10 s) (after 10 s))
@@ -213,11 +184,13 @@ module _ (w : ℕ) (ls : List Line) where
   open_row row l h =
       let long : (s : List ℕ) → 10 ≤ length (row ++ before 10 s) = λ s. rw length-append (omega arith) in
       let at : (s : List ℕ) → Named (length ls + 2) (lines_of w ls (row ++ before 10 s) (after 10 s)) = λ s. last (row ++ before 10 s) (after 10 s) l (long s) in
-      let ended = lines_cut w ls (row ++ []) (omega (arith, long [])) l in record {
+      let ended = lines_cut w ls (row ++ []) (omega (arith, long [])) l in
+      let fourteen : number_of (at []).refused.refusal ≡ 14 = ap number_in (sym (at []).is ∙ ended) in record {
+        refused = λ s. (at s).refused;
+        is = λ s. (at s).is;
         line = length ls + 2;
-        some = λ s. named_some (lines_of w ls (row ++ before 10 s) (after 10 s)).refused.refusal (at s).one;
         lines = λ s. (at s).there;
-        same = λ apart. absurd (apart (ap (λ (r : Reading). number_of r.refused.refusal) ended));
+        same = λ apart. absurd (apart fourteen);
         slips = λ is s. (at s).one;
       }
 
@@ -225,36 +198,35 @@ module _ (w : ℕ) (ls : List Line) where
 lines_refused : (w : ℕ) (ls : List Line) (row : List ℕ) (more : List (List ℕ)) → length ls ≤ lines_max → 330 ≤ length row + behind more + 10 * length ls
     → Met (λ s. lines_of w ls (front row more s) (rest more s))
 lines_refused w ls row [] few h =
-    ⊎_elim (λ e. met TooManyLines (length ls + 2) 0 refl (λ is. omega arith) (λ s. many w ls (row ++ before 10 s) (after 10 s) e (rw length-append (omega arith))))
+    ⊎_elim (λ e. met TooManyLines (length ls + 2) 0 (λ is. omega arith) (λ s. many w ls (row ++ before 10 s) (after 10 s) e (rw length-append (omega arith))))
     (λ l. open_row w ls row l (omega arith))
     (eq-or-lt_of_le few)
 lines_refused w ls row (next ∷ more) few h =
-    ⊎_elim (λ e. met TooManyLines (length ls + 2) 0 refl (λ is. omega arith) (λ s. many w ls row (front next more s ∷ rest more s) e (omega arith)))
+    ⊎_elim (λ e. met TooManyLines (length ls + 2) 0 (λ is. omega arith) (λ s. many w ls row (front next more s ∷ rest more s) e (omega arith)))
     (λ lt. by lt (line_of (8 / w) row) refl (line_slips (8 / w) row) (or_less 10 (length row)) (λ l i. lines_refused w (ls ++ (l ∷ [])) next more (rw length-append (omega arith)) (rw length-append (omega arith))))
     (eq-or-lt_of_le few)
   where
-    by : length ls < lines_max → (c : LineRead) → line_of (8 / w) row ≡ c → Slips (length row) c → (10 ≤ length row) ⊎ (length row < 10)
+    by : length ls < lines_max → (c : Result Line Slip) → line_of (8 / w) row ≡ c → Slips (length row) c → (10 ≤ length row) ⊎ (length row < 10)
         → ((l : Line) → length row < 10 → Met (λ s. lines_of w (ls ++ (l ∷ [])) (front next more s) (rest more s)))
         → Met (λ s. lines_of w ls row (front next more s ∷ rest more s))
-    by lt (Slip k c) e n d on =
-        met k (length ls + 2) c n.some (λ is. false≢true (ap (λ (m : ℕ). ltb m 14) (sym is) ∙ n.whole))
+    by lt (Err k) e n d on =
+        met k.refusal (length ls + 2) k.column (λ is. false≢true (ap (λ (m : ℕ). ltb m 14) (sym is) ∙ n.whole))
         (λ s. lines_next w ls row (front next more s) (rest more s) lt ∙ rw e)
-    by lt (Read l) e n (inl i) on = absurd (subst Misread e (long_row (8 / w) row i))
-    by lt (Read l) e n (inr i) on = later (λ s. lines_next w ls row (front next more s) (rest more s) lt ∙ rw e) (on l i)
+    by lt (Ok l) e n (inl i) on = absurd (subst Misread e (long_row (8 / w) row i))
+    by lt (Ok l) e n (inr i) on = later (λ s. lines_next w ls row (front next more s) (rest more s) lt ∙ rw e) (on l i)
 
 first_refused : (row : List ℕ) (more : List (List ℕ)) → 340 ≤ length row + behind more → Met (λ s. from_first (front row more s) (rest more s))
-first_refused row [] h = met WidthLine 1 0 refl (λ is. omega arith) (λ s. go (row ++ before 10 s) (after 10 s) (rw length-append (omega arith)))
+first_refused row [] h = met WidthLine 1 0 (λ is. omega arith) (λ s. go (row ++ before 10 s) (after 10 s) (rw length-append (omega arith)))
   where
     go : (r : List ℕ) (more : List (List ℕ)) → 10 ≤ length r → from_first r more ≡ refused_at WidthLine 1 0
     go r [] i = refl
     go r (next ∷ more) i = rw (long_width r i)
-first_refused row (next ∷ more) h = go (eqb (width_line row) 0) refl (or_less 10 (length row))
+first_refused row (next ∷ more) h = go (width_line row) refl (or_less 10 (length row))
   where
-    go : (t : Bool) → eqb (width_line row) 0 ≡ t → (10 ≤ length row) ⊎ (length row < 10)
-        → Met (λ s. cond t (refused_at WidthLine 1 0) (lines_of (width_line row) [] (front next more s) (rest more s)))
-    go true e d = met WidthLine 1 0 refl (λ is. omega arith) (λ s. refl)
-    go false e (inl i) = absurd (eqb-false (width_line row) 0 e (long_width row i))
-    go false e (inr i) = lines_refused (width_line row) [] next more (omega arith) (omega arith)
+    go : (w : Option ℕ) → width_line row ≡ w → (10 ≤ length row) ⊎ (length row < 10) → Met (λ s. with_width w (front next more s) (rest more s))
+    go None e d = met WidthLine 1 0 (λ is. omega arith) (λ s. refl)
+    go (Some w) e (inl i) = let none = long_width row i in cc
+    go (Some w) e (inr i) = lines_refused w [] next more (omega arith) (omega arith)
 
 -- ---- texts
 
@@ -265,12 +237,12 @@ read_refused p h =
 
 -- a text and its first `text_max` bytes
 module _ (text : List ℕ) where
-  abbrev pub cut : Reading
+  abbrev pub cut : Result Recipe Refused
   cut = read_of (take text_max text)
 
   -- P holds of the two if it holds of a reading and itself, and of a met text and that text with more behind it
-  by_cut : (P : Reading → Reading → Type 0) → P (read_of text) (read_of text)
-      → ((read : List ℕ → Reading) → Met read → (s : List ℕ) → P (read []) (read s)) → P cut (read_of text)
+  by_cut : (P : Result Recipe Refused → Result Recipe Refused → Type 0) → P (read_of text) (read_of text)
+      → ((read : List ℕ → Result Recipe Refused) → Met read → (s : List ℕ) → P (read []) (read s)) → P cut (read_of text)
   by_cut P one two = ⊎_elim (λ l. subst⁻¹ (λ (t : List ℕ). P (read_of t) (read_of text)) (take_all text_max text l) one) more (or_less (length text) text_max)
     where
       more : text_max < length text → P cut (read_of text)
@@ -281,27 +253,31 @@ module _ (text : List ℕ) where
           (two (λ s. read_of (take text_max text ++ s)) m (drop text_max text)))
 
   -- where there is more, both are refused
-  pub long_refused : text_max < length text → is_nothing (read_of text).refused ≡ false
-  long_refused h = subst (λ (t : List ℕ). is_nothing (read_of t).refused ≡ false) (append-nil text) ((read_refused text (omega arith)).some [])
+  pub long_refused : text_max < length text → IsErr (read_of text)
+  long_refused h = subst (λ (t : List ℕ). IsErr (read_of t)) (append-nil text) (ap is_err ((read_refused text (omega arith)).is []))
 
-  pub cut_refused : text_max < length text → is_nothing cut.refused ≡ false
+  pub cut_refused : text_max < length text → IsErr cut
   cut_refused h =
-      subst (λ (t : List ℕ). is_nothing (read_of t).refused ≡ false) (append-nil (take text_max text))
-      ((read_refused (take text_max text) (omega (arith, length-take text_max text))).some [])
+      subst (λ (t : List ℕ). IsErr (read_of t)) (append-nil (take text_max text))
+      (ap is_err ((read_refused (take text_max text) (omega (arith, length-take text_max text))).is []))
 
   -- on the same line
-  pub cut_line : cut.refused.line ≡ (read_of text).refused.line
-  cut_line = by_cut (λ c r. c.refused.line ≡ r.refused.line) refl (λ read m s. m.lines [] ∙ sym (m.lines s))
+  pub cut_line : line_in cut ≡ line_in (read_of text)
+  cut_line = by_cut (λ c r. line_in c ≡ line_in r) refl (λ read m s. ap line_in (m.is []) ∙ (m.lines [] ∙ sym (ap line_in (m.is s) ∙ m.lines s)))
 
   -- they are read as one, unless the cut line has no byte 10
-  pub cut_reads : (number_of cut.refused.refusal ≡ 14 → ⊥) → cut ≡ read_of text
-  cut_reads = by_cut (λ c r. (number_of c.refused.refusal ≡ 14 → ⊥) → c ≡ r) (λ apart. refl) (λ read m s apart. sym (m.same apart s))
+  pub cut_reads : (number_in cut ≡ 14 → ⊥) → cut ≡ read_of text
+  cut_reads =
+      by_cut (λ c r. (number_in c ≡ 14 → ⊥) → c ≡ r) (λ apart. refl)
+      (λ read m s apart. let same = m.same (λ is. apart (ap number_in (m.is []) ∙ is)) s in m.is [] ∙ (ap Err (sym same) ∙ sym (m.is s)))
 
   -- then the whole has one of 11 to 14
-  pub cut_slips : number_of cut.refused.refusal ≡ 14 → named (read_of text).refused.refusal ≡ true
-  cut_slips = by_cut (λ c r. number_of c.refused.refusal ≡ 14 → named r.refused.refusal ≡ true) (λ is. ap (leb 11) is) (λ read m s is. m.slips is s)
+  pub cut_slips : number_in cut ≡ 14 → leb 11 (number_in (read_of text)) ≡ true
+  cut_slips =
+      by_cut (λ c r. number_in c ≡ 14 → leb 11 (number_in r) ≡ true) (λ is. ap (leb 11) is)
+      (λ read m s is. ap (λ (r : Result Recipe Refused). leb 11 (number_in r)) (m.is s) ∙ m.slips (sym (ap number_in (m.is [])) ∙ is) s)
 
   -- so the program, which reads no more than `text_max` bytes, prints what the whole text is answered with, unless it prints 14
-  pub cut_answers : (number_of cut.refused.refusal ≡ 14 → ⊥) → answer_of (take text_max text) ≡ answer_of text
+  pub cut_answers : (number_in cut ≡ 14 → ⊥) → answer_of (take text_max text) ≡ answer_of text
   unfolding answer_of
   cut_answers apart = ap reading_printed (cut_reads apart)

@@ -17,6 +17,7 @@ use native.Mathlib.Omega.{arith}
 use native.Mathlib.Nat.{add-zero, zero-add, add_assoc}
 use lib.ListN.{length, set, take, drop, length-append, get_or}
 use lib.Seq.{take-append_seam}
+use Rattle.std.specs.Prelude.{Option, Some, Result, Ok, is_ok}
 use Rattle.alu.specs.declared.types.Flags.{Flags}
 use Rattle.step.specs.declared.registers.State.{State}
 use Rattle.step.specs.declared.forms.Step.{Step}
@@ -36,14 +37,10 @@ use Rattle.step.proofs.Promises.{Alu, Legal, Steps, performs}
 use Rattle.step.proofs.Leading.{All, executed, figures, Stands, stands_first, stands_left, stands_right, Leads, leads_none, leads_then, leads_like, leads_through, leads_in_parts, idle}
 use Rattle.recipes.specs.declared.types.Line.{Line}
 use Rattle.recipes.specs.declared.types.Recipe.{Recipe}
-use Rattle.recipes.specs.declared.types.Translated.{Translated}
-use Rattle.recipes.specs.declared.types.Listing.{Listing}
-use Rattle.recipes.specs.declared.types.Codes.{Codes}
-use Rattle.recipes.specs.declared.types.Codes.TheVariants.{Known}
-use Rattle.recipes.specs.Recipe.{is_nothing, is_width, target, recipe_lines, Names, Accepted}
-use Rattle.recipes.specs.Reader.{read_of}
+use Rattle.recipes.specs.declared.types.Refused.{Refused}
+use Rattle.recipes.specs.Recipe.{is_width, target, recipe_lines, Names, Accepted}
 use Rattle.step.specs.Lent.{over}
-use Rattle.recipes.specs.Listing.{steps_max, line_steps, listing_of, numbered_of, steps_at, steps_of, translated, translate_of, clocks_of, blank}
+use Rattle.recipes.specs.Listing.{steps_max, line_steps, listing_of, numbered_of, steps_at, steps_of, Translated, translated, translate_of, clocks_of, blank}
 use Rattle.recipes.specs.Rule.{numbers_of, registers_of, codes_of, Account, account_of, rule_of, rules_of}
 use Rattle.recipes.specs.Demand.{EightLongs, Holds, Ruled, Meets, Finishes, Demand3, HaltedBehind, CalledOneByOne, FromText, EachStep, EachBox}
 use Rattle.recipes.proofs.Steps.{line_length, listing_steps, numbered_steps}
@@ -214,24 +211,25 @@ pub steps_few : (r : Recipe) → Good r → steps_of r.width (recipe_lines r) �
 steps_few r g = few_steps r (width_is r.width g.width).1 g.few
 
 -- what was translated is the listing with its lines: its steps are the first `count` slots
-translated_listing : (r : Recipe) (slots : List Step) → is_nothing (translate_of r slots).refused ≡ true
-    → let t = translate_of r slots in (t.count ≡ steps_of r.width (recipe_lines r)) × (take t.count t.steps ≡ numbered_of r.width 2 (recipe_lines r))
-translated_listing r slots e =
-    let g = translated_good r slots e in
+translated_listing : (r : Recipe) (slots : List Step) (count : ℕ) → (translate_of r slots).told ≡ Ok count
+    → (count ≡ steps_of r.width (recipe_lines r)) × (take count (translate_of r slots).slots ≡ numbered_of r.width 2 (recipe_lines r))
+translated_listing r slots count e =
+    let g = translated_good r slots (ap is_ok e) in
     let w = r.width in
     let ls = recipe_lines r in
-    let is = good_translates r slots g.0 g.1 in (
-      ap (λ (t : Listing). t.count) is,
-      ap (λ (t : Listing). take t.count t.steps) is
+    let is = good_translates r slots g.0 g.1 in
+    let many : count ≡ steps_of w ls = let told = ap (λ (t : Translated). t.told) is in cc in (
+      many,
+      ap₂ (λ (n : ℕ) (t : Translated). take n t.slots) many is
           ∙ (ap (λ (n : ℕ). take n (over (numbered_of w 2 ls) slots)) (sym (numbered_steps w 2 ls)) ∙ take-append_seam (numbered_of w 2 ls) (drop (length (numbered_of w 2 ls)) slots)),
     )
 
 pub one_by_one : CalledOneByOne
-one_by_one r slots e s ok b bs enough =
+one_by_one r slots count e s ok b bs enough =
     let w = r.width in
     let ls = recipe_lines r in
-    let g = (translated_good r slots e).0 in
-    let is = translated_listing r slots e in
+    let g = (translated_good r slots (ap is_ok e)).0 in
+    let is = translated_listing r slots count e in
     subst⁻¹ (λ (l : List Step). Finishes w ls l s b bs) is.1
     (demand_3 w (width_is w g.width).0 ls g.lines (numbered_of w 2 ls) (numbered_bare w 2 ls g.lines) s ok b bs (subst (λ (n : ℕ). n ≤ total b bs) is.0 enough))
 
@@ -243,11 +241,11 @@ taken_at (suc n) (k ∷ l) zero h = refl
 taken_at (suc n) (k ∷ l) (suc p) h = taken_at n l p (omega arith)
 
 pub each_step : EachStep
-each_step r slots e p h =
+each_step r slots count e p h =
     let w = r.width in
     let ls = recipe_lines r in
     let t = translate_of r slots in
-    let is = translated_listing r slots e in
+    let is = translated_listing r slots count e in
     let found = place_at w ls p (subst (λ (n : ℕ). p < n) is.0 h) in
     let at = found.1.1 in
     record {
@@ -257,16 +255,15 @@ each_step r slots e p h =
       place = at.place;
       within = at.step;
       step =
-          sym (taken_at t.count t.steps p h)
+          sym (taken_at count t.slots p h)
           ∙ (ap (λ (l : List Step). get_or l p blank) is.1
           ∙ (ap (λ (q : ℕ). get_or (numbered_of w 2 ls) q blank) at.place ∙ sym (numbered_at w 2 ls found.0 found.1.0 at.line at.step)));
     }
 
 pub from_text : FromText
-from_text text slots e room =
-    let r = (read_of text).recipe in
-    let g = read_sound text e in
-    ap (λ (t : Listing). is_nothing t.refused) (good_translates r slots g (omega (arith, steps_few r g)))
+from_text text r slots e room =
+    let g = read_sound text r e in
+    ap (λ (t : Translated). is_ok t.told) (good_translates r slots g (omega (arith, steps_few r g)))
 
 pub each_box : EachBox
 each_box w some ls ok l lines sets starts answers fits i d inside longs first b bs enough =
@@ -278,22 +275,22 @@ each_box w some ls ok l lines sets starts answers fits i d inside longs first b 
     (whole.parts, subst⁻¹ (λ (r : Ran). (r.end ≡ Finished) × Meets w ls s r) box (whole.end, whole.meets))
 
 -- in the words of the contracts: t and `left` are what `translate` says and leaves, ran what `run` or `run_array` answers
-module _ (r : Recipe) (slots left : List Step) (t : Translated) (made : translated t left ≡ translate_of r slots) (fine : is_nothing t.refused ≡ true) (s : State) (ok : EightLongs s.d) where
+module _ (r : Recipe) (slots left : List Step) (t : Result ℕ Refused) (made : translated t left ≡ translate_of r slots) (count : ℕ) (fine : t ≡ Ok count) (s : State) (ok : EightLongs s.d) where
   abbrev listing : List Step
-  listing = take t.count left
+  listing = take count left
 
-  called : (b : ℕ) (bs : List ℕ) → t.count ≤ total b bs → Finishes r.width (recipe_lines r) listing s b bs
+  called : (b : ℕ) (bs : List ℕ) → count ≤ total b bs → Finishes r.width (recipe_lines r) listing s b bs
   called b bs enough =
-      subst⁻¹ (λ (l : Listing). is_nothing l.refused ≡ true → l.count ≤ total b bs → Finishes r.width (recipe_lines r) (take l.count l.steps) s b bs) made
-      (λ e few. one_by_one r slots e s ok b bs few) fine enough
+      subst⁻¹ (λ (t : Translated). t.told ≡ Ok count → Finishes r.width (recipe_lines r) (take count t.slots) s b bs) made
+      (λ e. one_by_one r slots count e s ok b bs enough) fine
 
   -- run whole
-  pub called_whole : (b : ℕ) → t.count ≤ b → (ran : Ran) → ran ≡ run_of perform_of listing s 0 b → (ran.end ≡ Finished) × Meets r.width (recipe_lines r) s ran
+  pub called_whole : (b : ℕ) → count ≤ b → (ran : Ran) → ran ≡ run_of perform_of listing s 0 b → (ran.end ≡ Finished) × Meets r.width (recipe_lines r) s ran
   called_whole b enough ran is =
       let f = called b [] enough in subst⁻¹ (λ (q : Ran). (q.end ≡ Finished) × Meets r.width (recipe_lines r) s q) is (f.end, f.meets)
 
   -- halted after at most j steps, and continued with registers, flags and place kept
-  pub called_halted : (j k : ℕ) → t.count ≤ j + k → (first : Ran) → first ≡ run_of perform_of listing s 0 j → (ran : Ran) → ran ≡ run_of perform_of listing first.state first.next k
+  pub called_halted : (j k : ℕ) → count ≤ j + k → (first : Ran) → first ≡ run_of perform_of listing s 0 j → (ran : Ran) → ran ≡ run_of perform_of listing first.state first.next k
       → (ran.end ≡ Finished) × Meets r.width (recipe_lines r) s (after first.steps first.clocks ran)
   called_halted j k enough first is ran again =
       let f = called j (k ∷ []) enough in
@@ -322,9 +319,9 @@ meets_one w e ls s r q h g ends same =
 pub meets_x : (w : ℕ) (ls : List Line) (s : State) (r q : Ran) → Meets w ls s r → Meets w ls s q → r.state.flags.x ≡ q.state.flags.x
 meets_x w ls s r q h g = h.rule.x ∙ sym g.rule.x
 
-pub meets_flags : (w : ℕ) (ls : List Line) (s : State) (f : Flags) (r q : Ran) → (rules_of w ls (account_of w s)).codes ≡ Known f → Meets w ls s r → Meets w ls s q
+pub meets_flags : (w : ℕ) (ls : List Line) (s : State) (f : Flags) (r q : Ran) → (rules_of w ls (account_of w s)).codes ≡ Some f → Meets w ls s r → Meets w ls s q
     → r.state.flags ≡ q.state.flags
 meets_flags w ls s f r q e h g = told r h ∙ sym (told q g)
   where
     told : (r : Ran) → Meets w ls s r → r.state.flags ≡ f
-    told r h = subst (λ (c : Codes). Holds c r.state.flags) e h.rule.codes
+    told r h = subst (λ (c : Option Flags). Holds c r.state.flags) e h.rule.codes

@@ -18,16 +18,16 @@ use contract.Lifetimes.{Lfts}
 use denote.Triple.Entry.{Args}
 use Rattle.alu.proofs.Determined.{Fixed, fixed, one_equation}
 use Rattle.step.proofs.Determined.{OneExit}
-use Rattle.recipes.specs.declared.types.Translated.{Translated}
-use Rattle.recipes.specs.declared.types.Listing.{Listing}
+use Rattle.std.specs.Prelude.{Result}
+use Rattle.recipes.specs.declared.types.Refused.{Refused}
 use Rattle.text.specs.Wrote.{Written, written, writing}
 use Rattle.recipes.specs.Reader.{read_of}
-use Rattle.recipes.specs.Listing.{translated, translate_of}
+use Rattle.recipes.specs.Listing.{Translated, translated, translate_of}
 use Rattle.recipes.specs.Printer.{step_text, listing_text, refusal_text, printed_of, answer_of}
 use Rattle.recipes.specs.Demand.{text_run_of}
-use Rattle.recipes.proofs.types.number.Reads as number
+use Rattle.recipes.proofs.types.U8FromRefusal.from.Reads as u8-from-refusal
 use Rattle.recipes.proofs.types.at_line.Reads as at-line
-use Rattle.recipes.proofs.types.is_nothing.Reads as is-nothing
+use Rattle.recipes.proofs.types.RecipeDefault.default.Reads as recipe-default
 use Rattle.recipes.proofs.lines.target.Reads as target
 use Rattle.recipes.proofs.translator.translate_array.Reads as translate-array
 use Rattle.recipes.proofs.runner.run_recipe.Reads as run-recipe
@@ -42,11 +42,10 @@ use Rattle.recipes.specs.contracts.runner.run_text as run-text
 
 pub determined : List Fixed
 determined =
-    fixed number.Learnt (one_equation _) ∷ fixed at-line.Learnt (one_equation _) ∷ fixed is-nothing.Learnt (one_equation _) ∷
-    fixed target.Learnt (one_equation _) ∷ fixed translate-array.Learnt (one_equation _) ∷ fixed run-recipe.Learnt (one_equation _) ∷ []
+    fixed u8-from-refusal.Learnt (one_equation _) ∷ fixed at-line.Learnt (one_equation _) ∷ fixed recipe-default.Learnt (one_equation _) ∷ fixed target.Learnt (one_equation _) ∷ fixed translate-array.Learnt (one_equation _) ∷ fixed run-recipe.Learnt (one_equation _) ∷ []
 
-abbrev told_in : Listing → Translated
-told_in l = record { refused = l.refused; count = l.count }
+abbrev told_in : Translated → Result ℕ Refused
+told_in t = t.told
 
 abbrev count_in : Written → ℕ
 count_in w = w.next
@@ -59,7 +58,7 @@ module _ {M : Type 1} {𝓤 : Ura M} (𝓛 : Logic 𝓤) (mem : Memory → SProp
   translate_determined κs a = record {
     of = translate_of a.0 a.1.0.now;
     is = λ r ws. refl;
-    all = λ r r' ws ws' e. (ap told_in e, ap (λ (l : Listing). (tt, (l.steps, tt))) e);
+    all = λ r r' ws ws' e. (ap told_in e, ap (λ (t : Translated). (tt, (t.slots, tt))) e);
   }
 
   pub print_step_determined : (κs : Lfts 1) (a : Args print-step.signature κs) → OneExit 𝓤 print-step.ended κs a (λ r ws. written ws.1.1.0 r) ((print-step.clauses 𝓛 mem go κs a).ensures tt)

@@ -6,7 +6,7 @@
 --     made_up_count    a made-up step count: it is the next place less the start place
 --     carry_dropped    a carry dropped between two words: ADD where ADDX should be, from every start whose low words carry
 use mathlib.Core.Path.{◌≡◌, refl, sym, ap, ap₂, ◌∙◌}
-use mathlib.Core.Bool.{true, false, true≢false}
+use mathlib.Core.Bool.{false, true≢false}
 use mathlib.Core.List.{List, [], ◌∷◌}
 use Prim.Native.Nat.{ℕ, suc, ◌+◌, ◌-◌, ◌*◌, ◌%◌, ◌^◌, ◌≤◌, ◌<◌}
 use mathlib.Core.Logic.{◌⊎◌, inl, inr}
@@ -15,6 +15,7 @@ use native.Mathlib.Omega.{arith}
 use native.Mathlib.Decide.{dec_lt}
 use lib.Dec.{lit<}
 use lib.ListN.{get_or, replicate}
+use Rattle.std.specs.Prelude.{Result, Ok, Err, is_ok, IsOk, IsErr}
 use Rattle.alu.specs.declared.types.Size.TheVariants.{Byte}
 use Rattle.alu.specs.declared.types.Flags.{Flags}
 use Rattle.alu.specs.declared.types.Answer.{Answer}
@@ -30,10 +31,11 @@ use Rattle.step.specs.Run.{run_of}
 use Rattle.step.proofs.Laws.{run_next}
 use Rattle.recipes.specs.declared.types.Verb.TheVariants.{Add, Neg}
 use Rattle.recipes.specs.declared.types.Line.{Line}
+use Rattle.recipes.specs.declared.types.Refused.{Refused}
 use Rattle.recipes.specs.declared.types.RecipeRun.{RecipeRun}
 use Rattle.text.specs.Text.{ascii, same_bytes, before, after, digit_of}
 use Rattle.recipes.specs.declared.lines.Act.TheVariants.{Two}
-use Rattle.recipes.specs.Recipe.{is_nothing, line_refusal}
+use Rattle.recipes.specs.Recipe.{line_refusal}
 use Rattle.recipes.specs.Reader.{verb_of, line_of, lines_of, width_line, read_of}
 use Rattle.recipes.specs.Listing.{step_of, rising_rest, line_steps, listing_of}
 use Rattle.recipes.specs.Rule.{numbers_of, registers_of, account_of, rules_of}
@@ -48,30 +50,43 @@ loaded d0 d1 d2 d3 = record { d = d0 ∷ d1 ∷ d2 ∷ d3 ∷ 0 ∷ 0 ∷ 0 ∷ 
 
 -- ---- the answers of a function that meets the contract of `run_text`
 
-abbrev Meeting : (List ℕ → State → RecipeRun) → Type 0
+abbrev Meeting : (List ℕ → State → Result RecipeRun Refused) → Type 0
 Meeting f = (text : List ℕ) (s : State) → f text s ≡ text_run_of text s
 
-empty_accepted : is_nothing (text_run_of (ascii "width\t1\n") (loaded 0 0 0 0)).refused ≡ true
+-- the data registers that an answer has, where there is one
+abbrev registers_in : Result RecipeRun Refused → List ℕ
+registers_in (Ok r) = r.d
+registers_in (Err k) = []
+
+empty_accepted : IsOk (text_run_of (ascii "width\t1\n") (loaded 0 0 0 0))
 unfolding text_run_of read_of lines_of width_line digit_of same_bytes before after
 empty_accepted = refl
 
-pub refuses_all : (f : List ℕ → State → RecipeRun) → Meeting f → ((text : List ℕ) (s : State) → is_nothing (f text s).refused ≡ false) → ⊥
+pub refuses_all : (f : List ℕ → State → Result RecipeRun Refused) → Meeting f → ((text : List ℕ) (s : State) → IsErr (f text s)) → ⊥
 refuses_all f meets refuses =
-    true≢false (sym empty_accepted ∙ (ap (λ (r : RecipeRun). is_nothing r.refused) (sym (meets _ (loaded 0 0 0 0))) ∙ refuses _ (loaded 0 0 0 0)))
+    let ok : IsOk (f (ascii "width\t1\n") (loaded 0 0 0 0)) = ap is_ok (meets _ (loaded 0 0 0 0)) ∙ empty_accepted in
+    both (f (ascii "width\t1\n") (loaded 0 0 0 0)) ok (refuses _ (loaded 0 0 0 0))
+  where
+    both : (r : Result RecipeRun Refused) → IsOk r → IsErr r → ⊥
+    both (Ok r) h g = true≢false (sym g)
+    both (Err k) h g = true≢false (sym h)
 
 -- 1 is negated to FFFFFFFF
-negated : get_or (text_run_of (ascii "width\t1\nneg\t0\n") (loaded 1 0 0 0)).d 0 0 ≡ 0xffff_ffff
+negated : get_or (registers_in (text_run_of (ascii "width\t1\nneg\t0\n") (loaded 1 0 0 0))) 0 0 ≡ 0xffff_ffff
 unfolding text_run_of read_of lines_of line_of verb_of digit_of width_line same_bytes before after line_refusal rules_of registers_of
 negated = refl
 
-pub does_nothing : (f : List ℕ → State → RecipeRun) → Meeting f → ((text : List ℕ) (s : State) → (f text s).d ≡ s.d) → ⊥
+pub does_nothing : (f : List ℕ → State → Result RecipeRun Refused) → Meeting f → ((text : List ℕ) (s : State) (r : RecipeRun) → f text s ≡ Ok r → r.d ≡ s.d) → ⊥
 does_nothing f meets stays =
-    let e : ◌≡◌ {A = ℕ} 1 0xffff_ffff =
-    ap (λ (d : List ℕ). get_or d 0 0) (sym (stays (ascii "width\t1\nneg\t0\n") (loaded 1 0 0 0)) ∙ ap (λ (r : RecipeRun). r.d) (meets _ (loaded 1 0 0 0))) ∙ negated in
-    omega arith
+    by (f (ascii "width\t1\nneg\t0\n") (loaded 1 0 0 0)) (stays (ascii "width\t1\nneg\t0\n") (loaded 1 0 0 0))
+    (ap (λ (r : Result RecipeRun Refused). get_or (registers_in r) 0 0) (meets _ (loaded 1 0 0 0)) ∙ negated)
+  where
+    by : (t : Result RecipeRun Refused) → ((r : RecipeRun) → t ≡ Ok r → r.d ≡ (loaded 1 0 0 0).d) → get_or (registers_in t) 0 0 ≡ 0xffff_ffff → ⊥
+    by (Ok r) stays e = let f : ◌≡◌ {A = ℕ} 1 0xffff_ffff = ap (λ (d : List ℕ). get_or d 0 0) (sym (stays r refl)) ∙ e in omega arith
+    by (Err k) stays e = omega arith
 
 -- without a line 0 stays 0
-kept : get_or (text_run_of (ascii "width\t1\n") (loaded 0 0 0 0)).d 0 0 ≡ 0
+kept : get_or (registers_in (text_run_of (ascii "width\t1\n") (loaded 0 0 0 0))) 0 0 ≡ 0
 unfolding text_run_of read_of lines_of width_line digit_of same_bytes before after rules_of registers_of
 kept = refl
 
@@ -82,9 +97,9 @@ rests r meets stays =
     let e : ◌≡◌ {A = ℕ} 1 0xffff_ffff = ap (λ (d : List ℕ). get_or (numbers_of 1 d) 0 0) (sym stays) ∙ ap (λ (ns : List ℕ). get_or ns 0 0) meets.rule.numbers in
     omega arith
 
-pub constant_run : (r : RecipeRun) → ((text : List ℕ) (s : State) → r ≡ text_run_of text s) → ⊥
+pub constant_run : (r : Result RecipeRun Refused) → ((text : List ℕ) (s : State) → r ≡ text_run_of text s) → ⊥
 constant_run r same =
-    let d0 : RecipeRun → ℕ = λ r. get_or r.d 0 0 in
+    let d0 : Result RecipeRun Refused → ℕ = λ r. get_or (registers_in r) 0 0 in
     let e : ◌≡◌ {A = ℕ} 0 0xffff_ffff = sym kept ∙ (sym (ap d0 (same _ (loaded 0 0 0 0))) ∙ (ap d0 (same (ascii "width\t1\nneg\t0\n") (loaded 1 0 0 0)) ∙ negated)) in
     omega arith
 

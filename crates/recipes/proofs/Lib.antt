@@ -1,5 +1,7 @@
 pub mod Steps
 pub mod Accepting
+mod Words
+mod Digits
 pub mod Settling
 mod LineByLine
 mod Places

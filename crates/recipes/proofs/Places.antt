@@ -138,7 +138,7 @@ number_fits w a h =
 
 -- ---- a listing with its lines, of which the first is text line n
 
-lined_at : (n : ℕ) (ks : List Step) (j : ℕ) → j < length ks → with_line n (get_or ks j blank) ≡ get_or (map (with_line n) ks) j blank
+pub lined_at : (n : ℕ) (ks : List Step) (j : ℕ) → j < length ks → with_line n (get_or ks j blank) ≡ get_or (map (with_line n) ks) j blank
 lined_at n [] j h = absurd (omega arith)
 lined_at n (k ∷ ks) zero h = refl
 lined_at n (k ∷ ks) (suc j) h = lined_at n ks j (omega arith)

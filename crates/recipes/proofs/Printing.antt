@@ -1,7 +1,9 @@
 -- Laws of the printed listing, one for each turn of a printer's loop. Assumes nothing.
 use Prim.Native.Nat.{ℕ, suc, ◌+◌, ◌<◌}
 use mathlib.Core.List.{List, [], ◌∷◌, ◌++◌, append-nil, append_assoc}
-use mathlib.Core.Path.{◌≡◌}
+use mathlib.Core.Path.{◌≡◌, refl}
+use Rattle.std.specs.List.{sum_by}
+use Rattle.std.proofs.lemmas.List.Sums.{sum_by-cons}
 use native.Mathlib.Numerals.{add-one}
 use native.Mathlib.Omega.{arith}
 use lib.ListN.{length, take, get_or}
@@ -29,11 +31,8 @@ steps_next l k h =
     let e : 0 + length (take k l) ≡ k = omega arith in
     rw (add-one, take-suc l k nop h, steps_snoc 0 (take k l) (get_or l k nop), e)
 
-clocks_snoc : (ks : List Step) (k : Step) → clocks_of (ks ++ (k ∷ [])) ≡ clocks_of ks + figure_of k
+-- std's sum of the figures
+pub figures_sum : (ks : List Step) → sum_by figure_of ks ≡ clocks_of ks
 unfolding clocks_of
-clocks_snoc [] k = omega arith
-clocks_snoc (m ∷ ks) k = rw (clocks_snoc ks k) (omega arith)
-
--- one more figure
-pub clocks_next : (l : List Step) (k : ℕ) → k < length l → clocks_of (take (k + 1) l) ≡ clocks_of (take k l) + figure_of (get_or l k nop)
-clocks_next l k h = rw (add-one, take-suc l k nop h, clocks_snoc)
+figures_sum [] = refl
+figures_sum (k ∷ ks) = let e = figures_sum ks in rw (sum_by-cons figure_of k ks, e)

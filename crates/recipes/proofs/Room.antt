@@ -1,13 +1,14 @@
 -- How long printed texts are: the program's buffer of `print_max` bytes has room for any of them, whatever steps stand in a listing. Assumes nothing.
 --     answer_short    the program's answer to any text
 use Prim.Native.Nat.{ℕ, suc, ◌+◌, ◌*◌, ◌≤◌}
-use mathlib.Core.Bool.{Bool, true, false, cond}
+use mathlib.Core.Bool.{Bool}
 use mathlib.Core.List.{List, [], ◌∷◌}
-use mathlib.Core.Path.{refl}
+use mathlib.Core.Path.{◌≡◌, refl}
 use native.Mathlib.Omega.{arith}
 use borrow.Author.Tests.{leb-true}
 use lib.Dec.{leb}
 use lib.ListN.{length, take, length-append, length-take}
+use Rattle.std.specs.Prelude.{Result, Ok, Err}
 use Rattle.alu.specs.declared.types.Size.{Size}
 use Rattle.alu.specs.declared.types.Size.TheVariants.{Byte, Word, Long}
 use Rattle.step.specs.declared.forms.Register.{Register}
@@ -19,11 +20,12 @@ use Rattle.step.specs.Operations.{Row, operation_of}
 use Rattle.step.proofs.Operations.{each_row}
 use Rattle.recipes.specs.declared.types.Recipe.{Recipe}
 use Rattle.recipes.specs.declared.types.Refused.{Refused}
+use Rattle.recipes.specs.declared.types.Listing.{Listing}
 use Rattle.text.specs.Text.{ascii, decimal_of}
-use Rattle.recipes.specs.Recipe.{number_of, is_nothing}
+use Rattle.recipes.specs.Recipe.{number_of}
 use Rattle.recipes.specs.Reader.{read_of}
-use Rattle.recipes.specs.Listing.{translate_of, blanks, clocks_of}
-use Rattle.recipes.specs.Printer.{print_max, operation_text, size_text, register_text, count_text, source_text, destination_text, step_text, steps_text, listing_text, refusal_text, printed_of, answer_of}
+use Rattle.recipes.specs.Listing.{steps_max, clocks_of, array_of}
+use Rattle.recipes.specs.Printer.{print_max, operation_text, size_text, register_text, count_text, source_text, destination_text, step_text, steps_text, listing_text, refusal_text, listing_printed, printed_of, reading_printed, answer_of}
 use Rattle.text.proofs.Values.{decimal_short}
 use Rattle.recipes.proofs.Settling.{blanks_count}
 
@@ -109,21 +111,20 @@ refusal_short k =
 
 printed_short : (r : Recipe) → length (printed_of r) ≤ print_max
 unfolding printed_of
-printed_short r = go (is_nothing (translate_of r blanks).refused)
+printed_short r = go (array_of r) (blanks_count r)
   where
-    go : (t : Bool)
-        → length (cond t (listing_text r.width (take (translate_of r blanks).count (translate_of r blanks).steps)) (refusal_text (translate_of r blanks).refused)) ≤ print_max
-    go true =
-        let few = blanks_count r in
-        let many = length-take (translate_of r blanks).count (translate_of r blanks).steps in
-        let short = listing_short r.width (take (translate_of r blanks).count (translate_of r blanks).steps) in
+    go : (t : Result Listing Refused) → ((l : Listing) → t ≡ Ok l → l.count ≤ steps_max) → length (listing_printed r.width t) ≤ print_max
+    go (Ok l) few =
+        let most = few l refl in
+        let many = length-take l.count l.steps in
+        let short = listing_short r.width (take l.count l.steps) in
         omega arith
-    go false = let short = refusal_short (translate_of r blanks).refused in omega arith
+    go (Err k) few = let short = refusal_short k in omega arith
 
 pub answer_short : (text : List ℕ) → length (answer_of text) ≤ print_max
 unfolding answer_of
-answer_short text = go (is_nothing (read_of text).refused)
+answer_short text = go (read_of text)
   where
-    go : (t : Bool) → length (cond t (printed_of (read_of text).recipe) (refusal_text (read_of text).refused)) ≤ print_max
-    go true = printed_short (read_of text).recipe
-    go false = let short = refusal_short (read_of text).refused in omega arith
+    go : (t : Result Recipe Refused) → length (reading_printed t) ≤ print_max
+    go (Ok r) = printed_short r
+    go (Err k) = let short = refusal_short k in omega arith

@@ -1,7 +1,7 @@
 -- Demand 3 (docs/PROMISES.md lists the three): any accepted recipe, run whole or halted after any step and continued, ends with each number and X exactly as document 01's rule says, after
 -- add, sub and neg with the flags of the whole number, address registers untouched, steps by document 01's formula. First what is promised of runs of the
 -- listing (proved in proofs/Demand: `demand_3`, `halted_behind`, `one_by_one`, `from_text`, `each_step`, `each_box`), then what `run_recipe` and `run_text` answer. Assumes nothing.
-use Rattle.std.specs.Prelude.{ℕ, ◌+◌, ◌*◌, ◌≤◌, ◌<◌, ◌≡◌, true, cond, List, ◌++◌, map, length, get_or, take}
+use Rattle.std.specs.Prelude.{ℕ, ◌+◌, ◌*◌, ◌≤◌, ◌<◌, ◌≡◌, true, Option, Some, None, Result, Ok, Err, IsOk, List, ◌++◌, map, length, get_or, take}
 use Rattle.alu.specs.declared.types.Flags.{Flags}
 use Rattle.step.specs.declared.registers.State.{State}
 use Rattle.step.specs.declared.forms.Step.{Step}
@@ -16,10 +16,8 @@ use Rattle.step.specs.Rack.{plan_of, state_of, box_in_parts}
 use Rattle.recipes.specs.declared.types.Line.{Line}
 use Rattle.recipes.specs.declared.types.Recipe.{Recipe}
 use Rattle.recipes.specs.declared.types.Refused.{Refused}
-use Rattle.recipes.specs.declared.types.Codes.{Codes}
-use Rattle.recipes.specs.declared.types.Codes.TheVariants.{Open, Known}
 use Rattle.recipes.specs.declared.types.RecipeRun.{RecipeRun}
-use Rattle.recipes.specs.Recipe.{no_refusal, is_nothing, unused, recipe_lines, Accepted}
+use Rattle.recipes.specs.Recipe.{unused, recipe_lines, Accepted}
 use Rattle.recipes.specs.Rule.{radix, numbers_of, registers_of, Account, account_of, rules_of}
 use Rattle.recipes.specs.Reader.{read_of}
 use Rattle.recipes.specs.Listing.{line_steps, listing_of, steps_at, steps_of, steps_max, clocks_of, tested, translate_of, blank}
@@ -32,9 +30,9 @@ pub record EightLongs (d : List ℕ) : Type 0 where
   pub each : (i : ℕ) → get_or d i 0 < radix
 
 -- all five flags are as told; where nothing is told this asks nothing of them (X is held by itself, in `Ruled`)
-abbrev pub Holds : Codes → Flags → Type 0
-Holds Open f = Unit {0}
-Holds (Known g) f = f ≡ g
+abbrev pub Holds : Option Flags → Flags → Type 0
+Holds None f = Unit {0}
+Holds (Some g) f = f ≡ g
 
 -- from s, a state t came to say r: all numbers in one equation, X, and the flags. No address register has changed, and the data registers still are eight
 -- of 32 bits
@@ -84,13 +82,13 @@ HaltedBehind =
 -- takes all slots that it is lent. Who lends it the slots past the listing too has `HaltedBehind`, for budgets that end with the listing.)
 abbrev pub CalledOneByOne : Type 0
 CalledOneByOne =
-    (r : Recipe) (slots : List Step) → let t = translate_of r slots in
-    is_nothing t.refused ≡ true → (s : State) → EightLongs s.d → (b : ℕ) (bs : List ℕ) → t.count ≤ total b bs
-    → Finishes r.width (recipe_lines r) (take t.count t.steps) s b bs
+    (r : Recipe) (slots : List Step) (count : ℕ) → let t = translate_of r slots in
+    t.told ≡ Ok count → (s : State) → EightLongs s.d → (b : ℕ) (bs : List ℕ) → count ≤ total b bs
+    → Finishes r.width (recipe_lines r) (take count t.slots) s b bs
 
 -- and a text that is read is accepted by the translator, wherever it has slots for the longest
 abbrev pub FromText : Type 0
-FromText = (text : List ℕ) (slots : List Step) → is_nothing (read_of text).refused ≡ true → steps_max ≤ length slots → is_nothing (translate_of (read_of text).recipe slots).refused ≡ true
+FromText = (text : List ℕ) (r : Recipe) (slots : List Step) → read_of text ≡ Ok r → steps_max ≤ length slots → IsOk (translate_of r slots).told
 
 -- Document 02, item 4, "A stopped run gives a place; the technician wants the recipe line." The step k at place p is step `index` of the recipe's line
 -- `line`, from 0, and carries that line's text line, which is `line` + 2
@@ -106,8 +104,8 @@ pub record ComesFrom (w : ℕ) (ls : List Line) (p : ℕ) (k : Step) : Type 0 wh
 -- `line_told` of step/proofs/Lines
 abbrev pub EachStep : Type 0
 EachStep =
-    (r : Recipe) (slots : List Step) → let t = translate_of r slots in
-    is_nothing t.refused ≡ true → (p : ℕ) → p < t.count → ComesFrom r.width (recipe_lines r) p (get_or t.steps p blank)
+    (r : Recipe) (slots : List Step) (count : ℕ) → let t = translate_of r slots in
+    t.told ≡ Ok count → (p : ℕ) → p < count → ComesFrom r.width (recipe_lines r) p (get_or t.slots p blank)
 
 -- Document 02, item 2, "Demand 3 reads each box by itself": the recipe's listing on a rack that is not refused, with a budget b, and then with each of the
 -- budgets bs. A box that starts at the first place ends as demand 3 says of a run, whatever the other boxes hold and wherever they start; no part of
@@ -127,7 +125,6 @@ abbrev pub ran_by_rule : (w : ℕ) → List Line → State → RecipeRun
 ran_by_rule w ls s =
     let r = rules_of w ls (account_of w s) in
     record {
-      refused = no_refusal;
       d = registers_of w r.numbers;
       a = s.a;
       x = r.x;
@@ -136,17 +133,14 @@ ran_by_rule w ls s =
       clocks = clocks_of (listing_of w ls);
     }
 
--- a refusal leaves the state and takes no step
-abbrev pub untouched : State → Refused → RecipeRun
-untouched s k = record { refused = k; d = s.d; a = s.a; x = s.flags.x; codes = Known s.flags; steps = 0; clocks = 0 }
-
--- a recipe: by the translator's tests, of which 9 is never met, since an array has slots for the longest
-unfoldable pub recipe_run_of : Recipe → State → RecipeRun
-recipe_run_of r s = tested (untouched s) r (ran_by_rule r.width (recipe_lines r) s)
+-- a recipe: by the translator's tests, of which 9 is never met, since an array has slots for the longest. A refused one is not run
+unfoldable pub recipe_run_of : Recipe → State → Result RecipeRun Refused
+recipe_run_of r s = tested Err r (Ok (ran_by_rule r.width (recipe_lines r) s))
 
 -- a text of any length: by the reader's. (That only `text_max` bytes are read is the program's)
-unfoldable pub text_run_of : List ℕ → State → RecipeRun
-text_run_of text s =
-    let g = read_of text in
-    let r = g.recipe in
-    cond (is_nothing g.refused) (ran_by_rule r.width (recipe_lines r) s) (untouched s g.refused)
+abbrev pub reading_ran : Result Recipe Refused → State → Result RecipeRun Refused
+reading_ran (Ok r) s = Ok (ran_by_rule r.width (recipe_lines r) s)
+reading_ran (Err k) s = Err k
+
+unfoldable pub text_run_of : List ℕ → State → Result RecipeRun Refused
+text_run_of text s = reading_ran (read_of text) s

@@ -1,5 +1,5 @@
 -- The listing that a recipe is translated to: document 01, "Recipes" and "Refusal numbers", with document 02, item 4. Assumes nothing.
-use Rattle.std.specs.Prelude.{ℕ, zero, suc, ◌+◌, ◌*◌, ◌/◌, Bool, false, cond, List, [], ◌∷◌, ◌++◌, map, leb, length, replicate}
+use Rattle.std.specs.Prelude.{ℕ, zero, suc, ◌+◌, ◌*◌, ◌/◌, Bool, false, cond, Result, Ok, Err, List, [], ◌∷◌, ◌++◌, map, leb, length, replicate}
 use Rattle.alu.specs.declared.types.Size.TheVariants.{Long}
 use Rattle.step.specs.declared.registers.State.{State}
 use Rattle.step.specs.declared.forms.OneOp.TheVariants.{Clr}
@@ -13,13 +13,13 @@ use Rattle.step.specs.Lines.{with_line}
 use Rattle.recipes.specs.declared.types.Verb.{Verb}
 use Rattle.recipes.specs.declared.types.Line.{Line}
 use Rattle.recipes.specs.declared.types.Recipe.{Recipe}
+use Rattle.recipes.specs.declared.types.Refusal.{Refusal}
 use Rattle.recipes.specs.declared.types.Refusal.TheVariants.{WidthLine, TooManyLines, NoSpace}
 use Rattle.recipes.specs.declared.types.Refused.{Refused}
-use Rattle.recipes.specs.declared.types.Translated.{Translated}
 use Rattle.recipes.specs.declared.types.Listing.{Listing}
 use Rattle.recipes.specs.declared.lines.Act.{Act}
 use Rattle.recipes.specs.declared.lines.Act.TheVariants.{One, Two, Shift}
-use Rattle.recipes.specs.Recipe.{lines_max, at_line, no_refusal, way_of, is_copy, target, is_width, recipe_lines, passes, line_refusal}
+use Rattle.recipes.specs.Recipe.{lines_max, at_line, way_of, is_copy, target, is_width, recipe_lines, line_refusal}
 
 -- ---- the steps: all are long, from data register p to data register q; a shift is by #1. They get their text lines below
 
@@ -120,10 +120,15 @@ clocks_of (k ∷ ks) = figure_of k + clocks_of ks
 -- refusal answers, and `go` what is answered when all are passed
 
 module _ {R : Type 0} (refuse : Refused → R) where
+  -- a line of this text line that passes, or doesn't
+  abbrev pub or_refused : Result (Unit {0}) Refusal → (line : ℕ) → (go : R) → R
+  or_refused (Ok passed) line go = go
+  or_refused (Err k) line go = refuse (at_line k line)
+
   -- the lines in turn, in a recipe of n numbers; the first has this text line
   unfoldable pub lines_pass : (n line : ℕ) → List Line → (go : R) → R
   lines_pass n line [] go = go
-  lines_pass n line (l ∷ ls) go = cond (passes (line_refusal n l)) (lines_pass n (suc line) ls go) (refuse (at_line (line_refusal n l) line))
+  lines_pass n line (l ∷ ls) go = or_refused (line_refusal n l) line (lines_pass n (suc line) ls go)
 
   abbrev pub tested : Recipe → (go : R) → R
   tested r go =
@@ -133,22 +138,22 @@ module _ {R : Type 0} (refuse : Refused → R) where
 
 -- ---- the translation, into a row of slots
 
--- (a `Listing` here has a row of any length; that of the code has `array_slots`)
-abbrev pub listed : Refused → (count : ℕ) → List Step → Listing
-listed refused count steps = record { refused = refused; count = count; steps = steps }
+-- what the translator tells, the number of steps or why there are none, and what the slots hold then
+pub record Translated : Type 0 where
+  pub told : Result ℕ Refused
+  pub slots : List Step
 
--- a refusal answers 0 steps and leaves the slots; 9 (line 0) where there are too few of them for the steps
-unfoldable pub translate_of : Recipe → (slots : List Step) → Listing
+abbrev pub translated : Result ℕ Refused → (slots : List Step) → Translated
+translated told slots = record { told = told; slots = slots }
+
+-- a refusal leaves the slots; 9 (line 0) where there are too few of them for the steps
+unfoldable pub translate_of : Recipe → (slots : List Step) → Translated
 translate_of r slots =
-    let refuse : Refused → Listing = λ k. listed k 0 slots in
+    let refuse : Refused → Translated = λ k. translated (Err k) slots in
     let w = r.width in
     let ls = recipe_lines r in
     tested refuse r
-    (cond (leb (steps_of w ls) (length slots)) (listed no_refusal (steps_of w ls) (over (numbered_of w 2 ls) slots)) (refuse (at_line NoSpace 0)))
-
--- what the translator says, and the slots that it was lent
-abbrev pub translated : Translated → (slots : List Step) → Listing
-translated t slots = listed t.refused t.count slots
+    (cond (leb (steps_of w ls) (length slots)) (translated (Ok (steps_of w ls)) (over (numbered_of w 2 ls) slots)) (refuse (at_line NoSpace 0)))
 
 -- the blank slots of an array. A blank slot holds a step on D255, of no line, which the machine refuses
 abbrev pub blank : Step
@@ -156,3 +161,13 @@ blank = clr_step 255
 
 abbrev pub blanks : List Step
 blanks = replicate array_slots blank
+
+-- the translation in an array, by value: with a refusal there is none
+abbrev pub listed : (count : ℕ) → List Step → Listing
+listed count steps = record { count = count; steps = steps }
+
+abbrev pub listing_in : Translated → Result Listing Refused
+listing_in t = elim t.told [ Ok count ↦ Ok (listed count t.slots) | Err k ↦ Err k ]
+
+abbrev pub array_of : Recipe → Result Listing Refused
+array_of r = listing_in (translate_of r blanks)

@@ -1,35 +1,32 @@
 -- Terms of private functions' contracts: an operand's field, the translator's parts, and what a run tells of the flags. No contract of a
 -- public function names anything of this page, and a reader can leave it out. Assumes nothing.
-use Rattle.std.specs.Prelude.{Bool, cond, ◌&&◌, List, [], ◌∷◌, ℕ, ◌+◌, ◌-◌, ◌*◌, ◌/◌, ◌%◌, ◌≤◌, ◌<◌, eqb, ltb, length, take}
+use Rattle.std.specs.Prelude.{Bool, cond, ◌&&◌, Option, Some, Result, Ok, Err, List, [], ◌∷◌, ℕ, ◌+◌, ◌-◌, ◌*◌, ◌/◌, ◌%◌, ◌≤◌, ◌<◌, ◌≡◌, eqb, length}
+use Rattle.std.specs.Bool.{then_some}
 use Rattle.alu.specs.declared.types.Flags.{Flags}
 use Rattle.step.specs.declared.forms.Step.{Step}
 use Rattle.step.specs.declared.forms.OneOp.TheVariants.{Clr}
-use Rattle.step.specs.Run.{array_slots}
 use Rattle.recipes.specs.declared.types.Verb.{Verb}
 use Rattle.recipes.specs.declared.types.Line.{Line}
 use Rattle.recipes.specs.declared.types.Recipe.{Recipe}
-use Rattle.recipes.specs.declared.types.Refusal.TheVariants.{NoSpace}
 use Rattle.recipes.specs.declared.types.Refused.{Refused}
-use Rattle.recipes.specs.declared.types.Translated.{Translated}
-use Rattle.recipes.specs.declared.types.Listing.{Listing}
-use Rattle.recipes.specs.declared.types.Codes.{Codes}
-use Rattle.recipes.specs.declared.types.Codes.TheVariants.{Open, Known}
 use Rattle.recipes.specs.declared.lines.Act.{Act}
 use Rattle.recipes.specs.declared.lines.Act.TheVariants.{One}
 use Rattle.recipes.specs.declared.lines.Way.{Way}
 use Rattle.recipes.specs.declared.translator.Job.{Job}
 use Rattle.recipes.specs.declared.printer.Operand.{Operand}
-use Rattle.recipes.specs.declared.printer.Operand.TheVariants.{Numbered, Absent}
 use Rattle.text.specs.Text.{ascii, decimal_of}
-use Rattle.recipes.specs.Recipe.{at_line, no_refusal, way_of, target, recipe_lines, Accepted}
-use Rattle.recipes.specs.Listing.{step_of, steps_of, lines_pass, tested}
+use Rattle.recipes.specs.Recipe.{lines_max, way_of, target, recipe_lines, Names, Accepted}
+use Rattle.recipes.specs.Listing.{step_of, steps_at, steps_of, lines_pass, tested}
 
 -- ---- printing
 
 -- an operand's field: a mark and a number, or none
-abbrev pub operand_text : Operand → List ℕ
-operand_text (Numbered mark n) = mark ∷ decimal_of n
-operand_text Absent = ascii "-"
+abbrev pub operand_bytes : Operand → List ℕ
+operand_bytes o = o.0 ∷ decimal_of o.1
+
+abbrev pub operand_text : Option Operand → List ℕ
+operand_text (Some o) = operand_bytes o
+operand_text None = ascii "-"
 
 -- ---- one step of a line
 
@@ -46,7 +43,7 @@ offset_of way w i = cond way.falls (w - 1 - i) i
 
 -- what the steps of a line have in common
 abbrev pub job_of : (w : ℕ) → Line → Job
-job_of w l = record { way = way_of l.verb; from = l.a * w; to = target l * w; steps = steps_by (way_of l.verb) * w }
+job_of w l = record { way = way_of l.verb; from = l.a * w; to = target l * w }
 
 -- step j
 abbrev pub job_step : (w : ℕ) → Job → (j : ℕ) → Step
@@ -59,41 +56,34 @@ job_step w b j =
 abbrev pub StepOfJob : (w : ℕ) → Job → (j : ℕ) → Type 0
 StepOfJob w b j = (b.from + w ≤ 8) × ((b.to + w ≤ 8) × (j < steps_by b.way * w))
 
--- ---- what the translator says
+-- ---- what the translator tells
 
-abbrev pub translation : Refused → (count : ℕ) → Translated
-translation refused count = record { refused = refused; count = count }
-
-abbrev pub no_steps : Refused → Translated
-no_steps k = translation k 0
-
-abbrev pub judge_lines : (w : ℕ) → List Line → Translated
-judge_lines w ls = lines_pass no_steps (8 / w) 2 ls (translation no_refusal (steps_of w ls))
+abbrev pub judge_lines : (w : ℕ) → List Line → Result ℕ Refused
+judge_lines w ls = lines_pass Err (8 / w) 2 ls (Ok (steps_of w ls))
 
 -- a recipe, if there is room for any listing
-abbrev pub judge_of : Recipe → Translated
-judge_of r = tested no_steps r (translation no_refusal (steps_of r.width (recipe_lines r)))
+abbrev pub judge_of : Recipe → Result ℕ Refused
+judge_of r = tested Err r (Ok (steps_of r.width (recipe_lines r)))
 
--- the first `count` steps of the lines can be laid out
-pub record Layable (w : ℕ) (lines : List Line) (count : ℕ) : Type 0 where
-  pub many : ℕ
-  pub within : count ≤ array_slots
-  pub width : 0 < count → (0 < w) × (w ≤ 4)
-  pub named : 0 < count → Accepted w (take many lines)
-  pub counted : count ≤ steps_of w (take many lines)
-  pub held : many ≤ length lines
+-- a line that can be laid out, into as many slots as it has steps
+pub record Slotted (w : ℕ) (l : Line) (slots : ℕ) : Type 0 where
+  pub small : w ≤ 4
+  pub named : Names (8 / w) l
+  pub all : slots ≡ steps_at l.verb * w
 
--- a listing that was made in an array, for a row of so many slots
-abbrev pub settled_of : Listing → (room : ℕ) → Translated
-settled_of l room = cond (ltb room l.count) (no_steps (at_line NoSpace 0)) (translation l.refused l.count)
+-- lines that can be laid out
+pub record Layable (w : ℕ) (ls : List Line) : Type 0 where
+  pub small : w ≤ 4
+  pub named : Accepted w ls
+  pub few : length ls ≤ lines_max
 
 -- ---- what a run tells of the flags
 
-abbrev pub codes_behind : Verb → Flags → Codes
-codes_behind v f = cond (way_of v).tells (Known f) Open
+abbrev pub codes_behind : Verb → Flags → Option Flags
+codes_behind v f = then_some (way_of v).tells f
 
 -- the last line decides; with no line the flags are as they were
-abbrev pub codes_after : List Line → Flags → Codes
-codes_after [] f = Known f
+abbrev pub codes_after : List Line → Flags → Option Flags
+codes_after [] f = Some f
 codes_after (l ∷ []) f = codes_behind l.verb f
 codes_after (l ∷ m ∷ ls) f = codes_after (m ∷ ls) f

@@ -1,5 +1,5 @@
 -- What is printed, as lists of bytes: document 01, the end of "Refusal numbers", with document 02, items 1 and 4. Assumes nothing.
-use Rattle.std.specs.Prelude.{ℕ, suc, cond, List, [], ◌∷◌, ◌++◌, length, take}
+use Rattle.std.specs.Prelude.{ℕ, suc, Result, Ok, Err, List, [], ◌∷◌, ◌++◌, length, take}
 use Rattle.alu.specs.declared.types.Size.{Size}
 use Rattle.alu.specs.declared.types.Size.TheVariants.{Byte, Word, Long}
 use Rattle.step.specs.declared.forms.Register.{Register}
@@ -11,11 +11,10 @@ use Rattle.step.specs.Operations.{operation_name, operation_of}
 use Rattle.recipes.specs.declared.types.Recipe.{Recipe}
 use Rattle.recipes.specs.declared.types.Refused.{Refused}
 use Rattle.recipes.specs.declared.types.Listing.{Listing}
-use Rattle.recipes.specs.declared.types.Reading.{Reading}
 use Rattle.text.specs.Text.{ascii, decimal_of}
-use Rattle.recipes.specs.Recipe.{number_of, is_nothing}
+use Rattle.recipes.specs.Recipe.{number_of}
 use Rattle.recipes.specs.Reader.{read_of}
-use Rattle.recipes.specs.Listing.{clocks_of, translate_of, blanks}
+use Rattle.recipes.specs.Listing.{clocks_of, array_of}
 
 abbrev pub tab : List ℕ
 tab = 9 ∷ []
@@ -99,15 +98,17 @@ listing_text w steps =
 unfoldable pub refusal_text : Refused → List ℕ
 refusal_text k = ascii "refused" ++ (field_of (number_of k.refusal) ++ (field_of k.line ++ (field_of k.column ++ newline)))
 
-abbrev pub listing_printed : (w : ℕ) → Listing → List ℕ
-listing_printed w l = cond (is_nothing l.refused) (listing_text w (take l.count l.steps)) (refusal_text l.refused)
+abbrev pub listing_printed : (w : ℕ) → Result Listing Refused → List ℕ
+listing_printed w (Ok l) = listing_text w (take l.count l.steps)
+listing_printed w (Err k) = refusal_text k
 
 -- a recipe's listing, made in an array, or its refusal
 unfoldable pub printed_of : Recipe → List ℕ
-printed_of r = listing_printed r.width (translate_of r blanks)
+printed_of r = listing_printed r.width (array_of r)
 
-abbrev pub reading_printed : Reading → List ℕ
-reading_printed r = cond (is_nothing r.refused) (printed_of r.recipe) (refusal_text r.refused)
+abbrev pub reading_printed : Result Recipe Refused → List ℕ
+reading_printed (Ok r) = printed_of r
+reading_printed (Err k) = refusal_text k
 
 -- what the program prints for the text that it read
 unfoldable pub answer_of : List ℕ → List ℕ

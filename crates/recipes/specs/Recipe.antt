@@ -1,5 +1,5 @@
 -- Recipes: document 01, "Recipes" and "Refusal numbers", with document 02, item 1. The verbs, and what a line may hold. Assumes nothing.
-use Rattle.std.specs.Prelude.{ℕ, ◌/◌, ◌<◌, Bool, true, false, cond, ◌||◌, ◌&&◌, List, [], ◌∷◌, ◌≡◌, eqb, leb, take}
+use Rattle.std.specs.Prelude.{ℕ, ◌/◌, ◌<◌, Bool, true, false, cond, ◌||◌, ◌&&◌, Result, Ok, Err, List, [], ◌∷◌, ◌≡◌, eqb, leb, take}
 use Rattle.alu.specs.declared.shift_rotate.ShiftOp.TheVariants.{Asr, Lsl, Lsr, Roxl, Roxr}
 use Rattle.step.specs.declared.forms.TwoOp.TheVariants as TwoOp
 use Rattle.step.specs.declared.forms.OneOp.TheVariants as OneOp
@@ -8,7 +8,7 @@ use Rattle.recipes.specs.declared.types.Verb.TheVariants.{Clear, Copy, Add, Sub,
 use Rattle.recipes.specs.declared.types.Line.{Line}
 use Rattle.recipes.specs.declared.types.Recipe.{Recipe}
 use Rattle.recipes.specs.declared.types.Refusal.{Refusal}
-use Rattle.recipes.specs.declared.types.Refusal.TheVariants.{Nothing, WidthLine, NoSuchNumber, OntoItself, TooManyLines, NoSpace, UnknownVerb, WrongFields, NotADigit, NoNewline}
+use Rattle.recipes.specs.declared.types.Refusal.TheVariants.{WidthLine, NoSuchNumber, OntoItself, TooManyLines, NoSpace, UnknownVerb, WrongFields, NotADigit, NoNewline}
 use Rattle.recipes.specs.declared.types.Refused.{Refused}
 use Rattle.recipes.specs.declared.lines.Act.{Act}
 use Rattle.recipes.specs.declared.lines.Act.TheVariants.{One, Two, Shift}
@@ -18,9 +18,8 @@ use Rattle.recipes.specs.declared.lines.Way.{Way}
 abbrev pub lines_max : ℕ
 lines_max = 32
 
--- the refusal numbers of documents 01 and 02; 0 is none
+-- the refusal numbers of documents 01 and 02
 abbrev pub number_of : Refusal → ℕ
-number_of Nothing = 0
 number_of WidthLine = 4
 number_of NoSuchNumber = 6
 number_of OntoItself = 7
@@ -31,23 +30,12 @@ number_of WrongFields = 12
 number_of NotADigit = 13
 number_of NoNewline = 14
 
--- a refusal with its text line and its column, in bytes; both count from 1. The line is 0 where none is to blame, the column of every number but 11 to 14,
--- and both are where nothing is refused
+-- a refusal with its text line and its column, in bytes; both count from 1. The line is 0 where none is to blame, the column of every number but 11 to 14
 abbrev pub at_column : Refusal → (line column : ℕ) → Refused
 at_column k line column = record { refusal = k; line = line; column = column }
 
 abbrev pub at_line : Refusal → (line : ℕ) → Refused
 at_line k line = at_column k line 0
-
-abbrev pub no_refusal : Refused
-no_refusal = at_line Nothing 0
-
--- whether nothing is refused
-abbrev pub passes : Refusal → Bool
-passes k = eqb (number_of k) 0
-
-abbrev pub is_nothing : Refused → Bool
-is_nothing k = passes k.refusal
 
 -- ---- verbs: a row for each
 
@@ -96,11 +84,11 @@ recipe_lines r = take r.count r.lines
 abbrev pub unused : Line
 unused = record { verb = Clear; a = 0; b = 0 }
 
--- why a line may not stand in a recipe of n numbers: 6 where it names a number that isn't there, then 7 where it copies a number onto itself
-unfoldable pub line_refusal : (n : ℕ) → Line → Refusal
+-- whether a line may stand in a recipe of n numbers, or why not: 6 where it names a number that isn't there, then 7 where it copies a number onto itself
+unfoldable pub line_refusal : (n : ℕ) → Line → Result (Unit {0}) Refusal
 line_refusal n l =
-    cond (leb n l.a || leb n (target l)) NoSuchNumber
-    (cond (is_copy l.verb && eqb l.a (target l)) OntoItself Nothing)
+    cond (leb n l.a || leb n (target l)) (Err NoSuchNumber)
+    (cond (is_copy l.verb && eqb l.a (target l)) (Err OntoItself) (Ok tt))
 
 -- the same as a property: the source and the target of a line that passes are numbers, and it copies none onto itself (`passes_names` and
 -- `names_pass` of proofs/Accepting)

@@ -1,15 +1,14 @@
 -- What a recipe means for whole numbers: document 01, "Recipes", its table of lines. Nothing here knows of steps. A
 -- subtraction of natural numbers stops at 0, and none below does: a number of w registers is below M = 2 ^ (32 w) (`number_below` of proofs/Numbers).
 -- Assumes nothing.
-use Rattle.std.specs.Prelude.{ℕ, zero, suc, ◌+◌, ◌-◌, ◌*◌, ◌/◌, ◌%◌, ◌^◌, Bool, false, not, cond, List, [], ◌∷◌, ◌++◌, leb, ltb, eqb, get_or, set}
+use Rattle.std.specs.Prelude.{ℕ, zero, suc, ◌+◌, ◌-◌, ◌*◌, ◌/◌, ◌%◌, ◌^◌, Bool, false, not, cond, Option, Some, None, List, [], ◌∷◌, ◌++◌, leb, ltb, eqb, get_or, set}
+use Rattle.alu.specs.declared.types.Flags.{Flags}
 use Rattle.alu.specs.Bits.{top, lowest}
 use Rattle.alu.specs.ConditionCodes.{add_flags, sub_flags, neg_flags}
 use Rattle.step.specs.declared.registers.State.{State}
 use Rattle.recipes.specs.declared.types.Verb.{Verb}
 use Rattle.recipes.specs.declared.types.Verb.TheVariants.{Clear, Copy, Add, Sub, Neg, Not, Halve, Down, Up}
 use Rattle.recipes.specs.declared.types.Line.{Line}
-use Rattle.recipes.specs.declared.types.Codes.{Codes}
-use Rattle.recipes.specs.declared.types.Codes.TheVariants.{Open, Known}
 use Rattle.recipes.specs.Recipe.{target}
 
 -- ---- numbers in registers
@@ -79,17 +78,17 @@ x_after n Down s d x = lowest d
 x_after n Up s d x = leb (2 ^ n) (2 * d)
 
 -- After add, sub and neg all flags are those of the whole number, by the Manual's rows in n bits: C the carry or borrow, V that the signed result doesn't
--- fit n bits, N its sign, Z that it is 0 (`add_means`, `sub_means`, `neg_means` of proofs/Meaning). After the other lines only X is promised.
-abbrev pub codes_of : (n : ℕ) → Verb → (s d : ℕ) → Codes
-codes_of n Clear s d = Open
-codes_of n Copy s d = Open
-codes_of n Add s d = Known (add_flags n s d (value_after n Add s d))
-codes_of n Sub s d = Known (sub_flags n s d (value_after n Sub s d))
-codes_of n Neg s d = Known (neg_flags n d (value_after n Neg s d))
-codes_of n Not s d = Open
-codes_of n Halve s d = Open
-codes_of n Down s d = Open
-codes_of n Up s d = Open
+-- fit n bits, N its sign, Z that it is 0 (`add_means`, `sub_means`, `neg_means` of proofs/Meaning). After the other lines only X is promised: `None`.
+abbrev pub codes_of : (n : ℕ) → Verb → (s d : ℕ) → Option Flags
+codes_of n Clear s d = None
+codes_of n Copy s d = None
+codes_of n Add s d = Some (add_flags n s d (value_after n Add s d))
+codes_of n Sub s d = Some (sub_flags n s d (value_after n Sub s d))
+codes_of n Neg s d = Some (neg_flags n d (value_after n Neg s d))
+codes_of n Not s d = None
+codes_of n Halve s d = None
+codes_of n Down s d = None
+codes_of n Up s d = None
 
 -- ---- line by line
 
@@ -97,11 +96,11 @@ codes_of n Up s d = Open
 pub record Account : Type 0 where
   pub numbers : List ℕ
   pub x : Bool
-  pub codes : Codes
+  pub codes : Option Flags
 
 -- what a state says
 abbrev pub account_of : (w : ℕ) → State → Account
-account_of w s = record { numbers = numbers_of w s.d; x = s.flags.x; codes = Known s.flags }
+account_of w s = record { numbers = numbers_of w s.d; x = s.flags.x; codes = Some s.flags }
 
 -- a line changes no number but its target
 abbrev pub rule_of : (w : ℕ) → Line → Account → Account

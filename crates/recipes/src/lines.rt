@@ -5,8 +5,10 @@ ghost use Rattle.recipes.specs.declared.lines.Act.TheVariants.{One, Two, Shift};
 ghost use Rattle.recipes.specs.Recipe.{way, way_of, goal_of, target, is_width, unused, line_refusal};
 
 use super::types::{Line, Refusal, Verb};
-use alu::shift_rotate::ShiftOp;
-use step::forms::{OneOp, TwoOp};
+use Act::{One, Shift, Two};
+use alu::shift_rotate::ShiftOp::{self, Asr, Lsl, Lsr, Roxl, Roxr};
+use step::forms::OneOp::{self, Clr, Neg, Negx, Not};
+use step::forms::TwoOp::{self, Add, Addx, Sub, Subx};
 
 // What is done at a register: of the target alone, of source and target, or a shift by 1.
 #[derive(Clone, Copy)]
@@ -40,59 +42,33 @@ pub(crate) fn unused() -> Line
     }
 }
 
-// The ways of verbs that work on the target alone, on source and target, and by shifts.
-fn on_one(first: OneOp, other: OneOp, tells: bool) -> Way
-    ensures { result ≡ way false false (One first) (One other) false tells }
+fn row(takes_two: bool, clears: bool, first: Act, other: Act, falls: bool, tells: bool) -> Way
+    ensures { result ≡ way takes_two clears first other falls tells }
 {
     Way {
-        takes_two: false,
-        clears: false,
-        first: Act::One(first),
-        other: Act::One(other),
-        falls: false,
-        tells,
-    }
-}
-
-fn on_two(clears: bool, first: TwoOp, other: TwoOp, tells: bool) -> Way
-    ensures { result ≡ way true clears (Two first) (Two other) false tells }
-{
-    Way {
-        takes_two: true,
+        takes_two,
         clears,
-        first: Act::Two(first),
-        other: Act::Two(other),
-        falls: false,
+        first,
+        other,
+        falls,
         tells,
     }
 }
 
-fn by_shifts(first: ShiftOp, other: ShiftOp, falls: bool) -> Way
-    ensures { result ≡ way false false (Shift first) (Shift other) falls false }
-{
-    Way {
-        takes_two: false,
-        clears: false,
-        first: Act::Shift(first),
-        other: Act::Shift(other),
-        falls,
-        tells: false,
-    }
-}
-
+// Columns: takes two | CLR before each | first step | other steps | highest first | flags told.
 pub(crate) fn way_of(verb: Verb) -> Way
     ensures { result ≡ way_of verb }
 {
     match verb {
-        Verb::Clear => on_one(OneOp::Clr, OneOp::Clr, false),
-        Verb::Copy => on_two(true, TwoOp::Add, TwoOp::Add, false),
-        Verb::Add => on_two(false, TwoOp::Add, TwoOp::Addx, true),
-        Verb::Sub => on_two(false, TwoOp::Sub, TwoOp::Subx, true),
-        Verb::Neg => on_one(OneOp::Neg, OneOp::Negx, true),
-        Verb::Not => on_one(OneOp::Not, OneOp::Not, false),
-        Verb::Halve => by_shifts(ShiftOp::Asr, ShiftOp::Roxr, true),
-        Verb::Down => by_shifts(ShiftOp::Lsr, ShiftOp::Roxr, true),
-        Verb::Up => by_shifts(ShiftOp::Lsl, ShiftOp::Roxl, false),
+        Verb::Clear => row(false, false, One(Clr), One(Clr), false, false),
+        Verb::Copy => row(true, true, Two(Add), Two(Add), false, false),
+        Verb::Add => row(true, false, Two(Add), Two(Addx), false, true),
+        Verb::Sub => row(true, false, Two(Sub), Two(Subx), false, true),
+        Verb::Neg => row(false, false, One(Neg), One(Negx), false, true),
+        Verb::Not => row(false, false, One(Not), One(Not), false, false),
+        Verb::Halve => row(false, false, Shift(Asr), Shift(Roxr), true, false),
+        Verb::Down => row(false, false, Shift(Lsr), Shift(Roxr), true, false),
+        Verb::Up => row(false, false, Shift(Lsl), Shift(Roxl), false, false),
     }
 }
 
@@ -107,9 +83,7 @@ pub(crate) fn goal(way: Way, line: Line) -> u8
 pub fn target(line: Line) -> u8
     ensures { result ≡ target line }
 {
-    let verb = line.verb;
-    let way = way_of(verb);
-    goal(way, line)
+    goal(way_of(line.verb), line)
 }
 
 pub(crate) fn is_width(width: u8) -> bool
@@ -118,18 +92,17 @@ pub(crate) fn is_width(width: u8) -> bool
     (width == 1) | (width == 2) | (width == 4)
 }
 
-// Why a line may not stand in a recipe of so many numbers: `Nothing` where it may.
-pub(crate) fn check_line(numbers: u8, line: Line) -> Refusal
+// Whether a line may stand in a recipe of so many numbers, or why it may not.
+pub(crate) fn check_line(numbers: u8, line: Line) -> Result<(), Refusal>
     ensures { result ≡ line_refusal numbers line }
 {
-    let verb = line.verb;
-    let way = way_of(verb);
+    let way = way_of(line.verb);
     let to = goal(way, line);
     if (numbers <= line.a) | (numbers <= to) {
-        return Refusal::NoSuchNumber;
+        return Err(Refusal::NoSuchNumber);
     }
     if way.clears & (line.a == to) {
-        return Refusal::OntoItself;
+        return Err(Refusal::OntoItself);
     }
-    Refusal::Nothing
+    Ok(())
 }

@@ -1,187 +1,183 @@
-// Printing a step, a listing or a refusal into a lent slice. A printer answers how many bytes it wrote, a `put_..` the next
-// place; what has no room is left off.
+// Printing a step, a listing or a refusal into a lent slice. A printer answers how many bytes it wrote; what has no room is left
+// off.
 ghost use Rattle.std.specs.Prelude.{◌≡◌, ◌∷◌, ◌++◌, take};
-ghost use Rattle.text.specs.Text.{before};
-ghost use Rattle.text.specs.Wrote.{written, writing, Wrote};
-ghost use Rattle.recipes.specs.Making.{operand_text};
-ghost use Rattle.recipes.specs.Printer.{operation_text, size_text, register_text, count_text, source_text, destination_text, step_text, steps_text, field_of};
+ghost use Rattle.text.specs.Wrote.{written, writing, wrote};
+ghost use Rattle.step.specs.Run.{array_slots};
+ghost use Rattle.recipes.specs.Making.{operand_text, operand_bytes};
+ghost use Rattle.recipes.specs.Printer.{operation_text, size_text, source_text, destination_text, step_text, steps_text, field_of};
 ghost use Rattle.recipes.specs.Printer.{listing_text, refusal_text};
 
 use super::translator::clocks;
-use super::types::{Refused, number};
+use super::types::Refused;
+use alu::bit_manip::BitOp;
+use alu::shift_rotate::ShiftOp;
 use alu::types::Size;
-use step::forms::{Count, Form, Register, Step, operation_of};
-use step::runs::{SLOTS, lesser};
-use text::parts::first;
-use text::types::{BLANK, NEWLINE, TAB};
-use text::writers::{put_byte, put_bytes, put_decimal, put_number};
+use step::forms::{AddressOp, Count, Form, OneOp, QuickOp, Register, Step, TwoOp};
+use step::runs::SLOTS;
+use text::types::{NEWLINE, TAB};
+use text::writers::Writer;
 
-// The names of the operations by number, each filled up with blanks to four bytes (as the size letters below).
-const NAMES: [u8; 120] = *b"\
-    ADD SUB CMP ADDXSUBXADDASUBACMPAADDQSUBQADDQSUBQCLR NEG NEGX\
-    NOT EXT ASL ASR LSL LSR ROL ROR ROXLROXRBTSTBSETBCLRBCHGCHK ";
-
-fn operation_name(form: Form) -> [u8; 4]
-    ensures { before 32 result ≡ operation_text form }
+fn operation_name(form: Form) -> &'static [u8]
+    ensures { result.now ≡ operation_text form }
 {
-    // Once: each use of a constant lays it out anew.
-    let names = NAMES;
-    let at = step::forms::number(operation_of(form)) as usize * 4;
-    [names[at], names[at + 1], names[at + 2], names[at + 3]]
+    match form {
+        Form::Two(TwoOp::Add, _, _) => b"ADD",
+        Form::Two(TwoOp::Sub, _, _) => b"SUB",
+        Form::Two(TwoOp::Cmp, _, _) => b"CMP",
+        Form::Two(TwoOp::Addx, _, _) => b"ADDX",
+        Form::Two(TwoOp::Subx, _, _) => b"SUBX",
+        Form::Address(AddressOp::Adda, _, _) => b"ADDA",
+        Form::Address(AddressOp::Suba, _, _) => b"SUBA",
+        Form::Address(AddressOp::Cmpa, _, _) => b"CMPA",
+        Form::Quick(QuickOp::Addq, _, _) => b"ADDQ",
+        Form::Quick(QuickOp::Subq, _, _) => b"SUBQ",
+        Form::One(OneOp::Clr, _) => b"CLR",
+        Form::One(OneOp::Neg, _) => b"NEG",
+        Form::One(OneOp::Negx, _) => b"NEGX",
+        Form::One(OneOp::Not, _) => b"NOT",
+        Form::One(OneOp::Ext, _) => b"EXT",
+        Form::Shift(ShiftOp::Asl, _, _) => b"ASL",
+        Form::Shift(ShiftOp::Asr, _, _) => b"ASR",
+        Form::Shift(ShiftOp::Lsl, _, _) => b"LSL",
+        Form::Shift(ShiftOp::Lsr, _, _) => b"LSR",
+        Form::Shift(ShiftOp::Rol, _, _) => b"ROL",
+        Form::Shift(ShiftOp::Ror, _, _) => b"ROR",
+        Form::Shift(ShiftOp::Roxl, _, _) => b"ROXL",
+        Form::Shift(ShiftOp::Roxr, _, _) => b"ROXR",
+        Form::Bit(BitOp::Btst, _, _) => b"BTST",
+        Form::Bit(BitOp::Bset, _, _) => b"BSET",
+        Form::Bit(BitOp::Bclr, _, _) => b"BCLR",
+        Form::Bit(BitOp::Bchg, _, _) => b"BCHG",
+        Form::Chk(_, _) => b"CHK",
+    }
 }
 
-fn size_name(size: Size) -> [u8; 4]
-    ensures { before 32 result ≡ size_text size }
+fn size_name(size: Size) -> &'static [u8]
+    ensures { result.now ≡ size_text size }
 {
     match size {
-        Size::Byte => [b'B', b' ', b' ', b' '],
-        Size::Word => [b'W', b' ', b' ', b' '],
-        Size::Long => [b'L', b' ', b' ', b' '],
+        Size::Byte => b"B",
+        Size::Word => b"W",
+        Size::Long => b"L",
     }
 }
 
-// What stands in an operand's field: a mark and a number, or none.
+// A mark and a number: a register, or a small number.
 #[derive(Clone, Copy)]
-enum Operand {
-    Numbered(u8, u8),
-    Absent,
-}
+struct Operand(u8, u8);
 
-fn of_register(register: Register) -> Operand
-    ensures { operand_text result ≡ register_text register }
-{
-    match register {
-        Register::Data(d) => Operand::Numbered(b'D', d.0),
-        Register::Address(a) => Operand::Numbered(b'A', a.0),
-    }
-}
-
-fn of_count(count: Count) -> Operand
-    ensures { operand_text result ≡ count_text count }
-{
-    match count {
-        Count::Small(k) => Operand::Numbered(b'#', k),
-        Count::Data(d) => Operand::Numbered(b'D', d.0),
-    }
-}
-
-fn source(form: Form) -> Operand
+fn source(form: Form) -> Option<Operand>
     ensures { operand_text result ≡ source_text form }
 {
     match form {
-        Form::Two(_, p, _) => Operand::Numbered(b'D', p.0),
-        Form::Address(_, p, _) => of_register(p),
-        Form::Quick(_, k, _) => Operand::Numbered(b'#', k),
-        Form::One(_, _) => Operand::Absent,
-        Form::Shift(_, k, _) => of_count(k),
-        Form::Bit(_, k, _) => of_count(k),
-        Form::Chk(p, _) => Operand::Numbered(b'D', p.0),
+        Form::Address(_, Register::Address(p), _) => Some(Operand(b'A', p.0)),
+        Form::Two(_, p, _)
+        | Form::Address(_, Register::Data(p), _)
+        | Form::Shift(_, Count::Data(p), _)
+        | Form::Bit(_, Count::Data(p), _)
+        | Form::Chk(p, _) => Some(Operand(b'D', p.0)),
+        Form::Quick(_, k, _)
+        | Form::Shift(_, Count::Small(k), _)
+        | Form::Bit(_, Count::Small(k), _) => Some(Operand(b'#', k)),
+        Form::One(_, _) => None,
     }
 }
 
 fn destination(form: Form) -> Operand
-    ensures { operand_text result ≡ destination_text form }
+    ensures { operand_bytes result ≡ destination_text form }
 {
     match form {
-        Form::Two(_, _, q) => Operand::Numbered(b'D', q.0),
-        Form::Address(_, _, q) => Operand::Numbered(b'A', q.0),
-        Form::Quick(_, _, q) => of_register(q),
-        Form::One(_, q) => Operand::Numbered(b'D', q.0),
-        Form::Shift(_, _, q) => Operand::Numbered(b'D', q.0),
-        Form::Bit(_, _, q) => Operand::Numbered(b'D', q.0),
-        Form::Chk(_, q) => Operand::Numbered(b'D', q.0),
+        Form::Address(_, _, q) | Form::Quick(_, _, Register::Address(q)) => Operand(b'A', q.0),
+        Form::Two(_, _, q)
+        | Form::Quick(_, _, Register::Data(q))
+        | Form::One(_, q)
+        | Form::Shift(_, _, q)
+        | Form::Bit(_, _, q)
+        | Form::Chk(_, q) => Operand(b'D', q.0),
     }
 }
 
-// A tab, and a name without its blanks.
-fn put_name(out: &mut [u8], at: usize, name: [u8; 4]) -> usize
-    ensures { Wrote out.old at (9 ∷ before 32 name) out.new result }
+// A tab, and a name.
+fn put_name(w: &mut Writer, name: &[u8])
+    ensures { w.new ≡ wrote w.old (9 ∷ name.now) }
 {
-    let next = put_byte(out, at, TAB);
-    let n = first(&name, BLANK);
-    put_bytes(out, next, &name[..n])
+    w.byte(TAB);
+    w.bytes(name);
 }
 
 // A tab, and an operand.
-fn put_operand(out: &mut [u8], at: usize, operand: Operand) -> usize
-    ensures { Wrote out.old at (9 ∷ operand_text operand) out.new result }
+fn put_operand(w: &mut Writer, operand: Option<Operand>)
+    ensures { w.new ≡ wrote w.old (9 ∷ operand_text operand) }
 {
-    let next = put_byte(out, at, TAB);
+    w.byte(TAB);
     match operand {
-        Operand::Numbered(mark, n) => put_number(out, next, mark, n as u64),
-        Operand::Absent => put_byte(out, next, b'-'),
+        Some(Operand(mark, n)) => w.number(mark, u64::from(n)),
+        None => w.byte(b'-'),
     }
 }
 
 // A step of a listing: place, operation, size letter, source, destination, text line.
-fn put_step(out: &mut [u8], at: usize, place: u64, step: Step) -> usize
-    ensures { Wrote out.old at (step_text place step) out.new result }
+fn put_step(w: &mut Writer, place: u64, step: Step)
+    ensures { w.new ≡ wrote w.old (step_text place step) }
 {
-    let size = step.size;
-    let form = step.form;
-    let line = step.line as u64;
-    let next = put_decimal(out, at, place);
-    let next = put_name(out, next, operation_name(form));
-    let next = put_name(out, next, size_name(size));
-    let next = put_operand(out, next, source(form));
-    let next = put_operand(out, next, destination(form));
-    let next = put_number(out, next, TAB, line);
-    put_byte(out, next, NEWLINE)
+    w.decimal(place);
+    put_name(w, operation_name(step.form));
+    put_name(w, size_name(step.size));
+    put_operand(w, source(step.form));
+    put_operand(w, Some(destination(step.form)));
+    w.number(TAB, u64::from(step.line));
+    w.byte(NEWLINE);
 }
 
-fn put_steps(out: &mut [u8], at: usize, steps: [Step; SLOTS], count: usize) -> usize
-    ensures { Wrote out.old at (steps_text 0 (take count steps)) out.new result }
+fn put_steps(w: &mut Writer, steps: &[Step])
+    ensures { w.new ≡ wrote w.old (steps_text 0 steps.now) }
 {
-    let mut next = at;
-    let mut k: usize = 0;
-    while k < SLOTS {
-        if count <= k {
-            return next;
-        }
-        let step = steps[k];
-        next = put_step(out, next, k as u64, step);
-        k += 1;
+    for (k, step) in steps.iter().enumerate() {
+        put_step(w, k as u64, *step);
     }
-    next
 }
 
 // What each answer begins with: a name and two numbers.
-fn put_head(out: &mut [u8], name: &[u8], a: u64, b: u64) -> usize
-    ensures { Wrote out.old 0 (name.now ++ (field_of a ++ field_of b)) out.new result }
+fn put_head(w: &mut Writer, name: &[u8], a: u64, b: u64)
+    ensures { w.new ≡ wrote w.old (name.now ++ (field_of a ++ field_of b)) }
 {
-    let next = put_bytes(out, 0, name);
-    let next = put_number(out, next, TAB, a);
-    put_number(out, next, TAB, b)
+    w.bytes(name);
+    w.number(TAB, a);
+    w.number(TAB, b);
 }
 
 // Prints a step as a line of a listing, at a place.
 pub fn print_step(place: u64, step: Step, out: &mut [u8]) -> usize
     ensures { written out.new result ≡ writing out.old 0 (step_text place step) }
 {
-    put_step(out, 0, place, step)
+    let mut w = Writer { out, at: 0 };
+    put_step(&mut w, place, step);
+    w.at
 }
 
-// Prints the first `count` steps of a listing; a count above `SLOTS` means all of them.
-pub fn print(width: u8, steps: [Step; SLOTS], count: usize, out: &mut [u8]) -> usize
-    ensures { written out.new result ≡ writing out.old 0 (listing_text width (take count steps)) }
+// Prints a listing; of more than `SLOTS` steps the first `SLOTS`.
+pub fn print(width: u8, steps: &[Step], out: &mut [u8]) -> usize
+    ensures { written out.new result ≡ writing out.old 0 (listing_text width (take array_slots steps.now)) }
 {
-    let many = lesser(count, SLOTS);
-    let sum = clocks(steps, count);
-    let next = put_head(out, b"width", width as u64, many as u64);
-    let next = put_byte(out, next, NEWLINE);
-    let next = put_steps(out, next, steps, count);
-    let next = put_bytes(out, next, b"clocks");
-    let next = put_number(out, next, TAB, sum);
-    put_byte(out, next, NEWLINE)
+    let steps = &steps[..SLOTS.min(steps.len())];
+    let mut w = Writer { out, at: 0 };
+    put_head(&mut w, b"width", u64::from(width), steps.len() as u64);
+    w.byte(NEWLINE);
+    put_steps(&mut w, steps);
+    w.bytes(b"clocks");
+    w.number(TAB, clocks(steps));
+    w.byte(NEWLINE);
+    w.at
 }
 
 // Prints a refusal: `refused`, its number, its line and its column.
 pub fn print_refusal(refused: Refused, out: &mut [u8]) -> usize
     ensures { written out.new result ≡ writing out.old 0 (refusal_text refused) }
 {
-    let refusal = refused.refusal;
-    let n = number(refusal);
-    let next = put_head(out, b"refused", n as u64, refused.line as u64);
-    let next = put_number(out, next, TAB, refused.column as u64);
-    put_byte(out, next, NEWLINE)
+    let number = u8::from(refused.refusal);
+    let mut w = Writer { out, at: 0 };
+    put_head(&mut w, b"refused", u64::from(number), refused.line as u64);
+    w.number(TAB, refused.column as u64);
+    w.byte(NEWLINE);
+    w.at
 }

@@ -1,32 +1,31 @@
 // From a recipe to its listing, and what the listing's steps cost. A number's registers go lowest first, those of halve and
-// down highest first. In a contract `long`, `blank` and `translation` are the definitions of specs/ that the functions of that
-// name are held to.
-ghost use Rattle.std.specs.Prelude.{◌≡◌, ◌/◌, ◌%◌, ◌*◌, ◌<◌, ◌≤◌, ◌^◌, get_or, take};
-ghost use Rattle.recipes.specs.Recipe.{lines_max, unused};
+// down highest first. In a contract `long` and `blank` are the definitions of specs/ that the functions of that name are held
+// to.
+ghost use Rattle.std.specs.Prelude.{◌≡◌, ◌/◌, ◌%◌, ◌*◌, ◌<◌, ◌≤◌, ◌^◌, length, map, take};
+ghost use Rattle.recipes.specs.Recipe.{lines_max};
 ghost use Rattle.step.specs.Lent.{over};
-ghost use Rattle.recipes.specs.Listing.{long, form_of, step_of, blank, blanks, numbered_of, translate_of, at_rest, figure_of, clocks_of};
-ghost use Rattle.recipes.specs.Making.{translation, act_at, offset_of, steps_by, job_of, job_step, StepOfJob, judge_of, judge_lines, Layable};
+ghost use Rattle.step.specs.Lines.{with_line};
+ghost use Rattle.step.specs.Run.{array_slots};
+ghost use Rattle.recipes.specs.Listing.{long, form_of, step_of, blank, blanks, line_steps, numbered_of, array_of, at_rest, figure_of, clocks_of};
+ghost use Rattle.recipes.specs.Making.{act_at, offset_of, steps_by, job_of, job_step, StepOfJob, judge_of, judge_lines, Slotted, Layable};
 
-use super::lines::{Act, Way, check_line, goal, is_width, unused, way_of};
-use super::types::{
-    LINES_MAX, Line, Listing, Recipe, Refusal, Refused, Translated, at_line, no_refusal, passes,
-};
+use super::lines::{Act, Way, check_line, goal, is_width, way_of};
+use super::types::{LINES_MAX, Line, Listing, Recipe, Refusal, Refused, at_line};
 use alu::types::{Flags, Size};
 use step::forms::{Count, Form, OneOp, Step, with_line};
 use step::registers::{D, State};
 use step::runs::SLOTS;
 use step::steps::perform;
 
-// What the steps of a line have in common: its way, the lowest registers of its numbers, and how many steps there are.
+// What the steps of a line have in common: its way, and the lowest registers of its numbers.
 #[derive(Clone, Copy)]
 pub(crate) struct Job {
     pub way: Way,
     pub from: usize,
     pub to: usize,
-    pub steps: usize,
 }
 
-// Every step of a listing is made here, and gets its text line in `lay`.
+// Every step of a listing is made here, and gets its text line in `lay_line`.
 fn long(form: Form) -> Step
     ensures { result ≡ long form }
 {
@@ -51,8 +50,7 @@ fn form_of(act: Act, p: u8, q: u8) -> Form
 fn step_of(act: Act, p: u8, q: u8) -> Step
     ensures { result ≡ step_of act p q }
 {
-    let form = form_of(act, p, q);
-    long(form)
+    long(form_of(act, p, q))
 }
 
 // A slot that holds no step of a listing. There is no D255, so that a run that strays into it is refused.
@@ -66,12 +64,10 @@ fn blank() -> Step
 fn act_at(way: Way, first: bool, part: usize) -> Act
     ensures { result ≡ act_at way first part }
 {
-    let at_first = way.first;
-    let at_other = way.other;
     if way.clears & (part == 0) {
         return Act::One(OneOp::Clr);
     }
-    if first { at_first } else { at_other }
+    if first { way.first } else { way.other }
 }
 
 // Which of a number's registers is the one taken at `index`, from 0.
@@ -86,17 +82,11 @@ fn offset(way: Way, width: u8, index: usize) -> usize
     }
 }
 
-// Step j of a line is at the register taken at this index, and is this part of the steps there.
-fn index_of(way: Way, j: usize) -> usize
-    ensures { result ≡ j / steps_by way }
+// Step j of a line: the index of the register that it is at, and its part of the steps there.
+fn spot_of(way: Way, j: usize) -> (usize, usize)
+    ensures { result ≡ (j / steps_by way, j % steps_by way) }
 {
-    if way.clears { j / 2 } else { j }
-}
-
-fn part_of(way: Way, j: usize) -> usize
-    ensures { result ≡ j % steps_by way }
-{
-    if way.clears { j % 2 } else { 0 }
+    if way.clears { (j / 2, j % 2) } else { (j, 0) }
 }
 
 // The steps that a line takes.
@@ -111,15 +101,11 @@ fn steps_of(width: u8, way: Way) -> usize
 fn job_of(width: u8, line: Line) -> Job
     ensures { result ≡ job_of width line }
 {
-    let verb = line.verb;
-    let way = way_of(verb);
-    let to = goal(way, line);
-    let steps = steps_of(width, way);
+    let way = way_of(line.verb);
     Job {
         way,
         from: line.a as usize * width as usize,
-        to: to as usize * width as usize,
-        steps,
+        to: goal(way, line) as usize * width as usize,
     }
 }
 
@@ -129,123 +115,92 @@ fn line_step(width: u8, job: Job, j: usize) -> Step
     ensures { result ≡ job_step width job j }
 {
     let way = job.way;
-    let index = index_of(way, j);
-    let part = part_of(way, j);
+    let (index, part) = spot_of(way, j);
     let at = offset(way, width, index);
     let act = act_at(way, index == 0, part);
-    let p = job.from + at;
-    let q = job.to + at;
-    step_of(act, p as u8, q as u8)
-}
-
-pub(crate) fn translation(refused: Refused, count: usize) -> Translated
-    ensures { result ≡ translation refused count }
-{
-    Translated { refused, count }
+    step_of(act, (job.from + at) as u8, (job.to + at) as u8)
 }
 
 // The tests of the lines in turn, and the steps that they take together. Line k, from 0, is text line k + 2.
-fn judge_lines(width: u8, count: usize, lines: [Line; LINES_MAX]) -> Translated
-    requires { (0 < width) × ((width ≤ 4) × (count ≤ lines_max)) }
-    ensures { result ≡ judge_lines width (take count lines) }
+fn judge_lines(width: u8, lines: &[Line]) -> Result<usize, Refused>
+    requires { (0 < width) × ((width ≤ 4) × (length lines.now ≤ lines_max)) }
+    ensures { result ≡ judge_lines width lines.now }
 {
     let numbers = 8 / width;
-    let mut steps: usize = 0;
-    let mut k: usize = 0;
-    while k < count {
-        let line = lines[k];
-        let verb = line.verb;
-        let refusal = check_line(numbers, line);
-        if !passes(refusal) {
-            return translation(at_line(refusal, k + 2), 0);
+    let mut steps = 0;
+    for (k, line) in lines.iter().enumerate() {
+        if let Err(refusal) = check_line(numbers, *line) {
+            return Err(at_line(refusal, k + 2));
         }
-        steps += steps_of(width, way_of(verb));
-        k += 1;
+        steps += steps_of(width, way_of(line.verb));
     }
-    translation(no_refusal(), steps)
+    Ok(steps)
 }
 
 // The tests of a recipe, in document 01's order, without that of the room; and the steps that it takes.
-fn judge(recipe: Recipe) -> Translated
+fn judge(recipe: Recipe) -> Result<usize, Refused>
     ensures { result ≡ judge_of recipe }
 {
-    let width = recipe.width;
-    let count = recipe.count;
-    let lines = recipe.lines;
-    if !is_width(width) {
-        return translation(at_line(Refusal::WidthLine, 1), 0);
+    if !is_width(recipe.width) {
+        return Err(at_line(Refusal::WidthLine, 1));
     }
-    if LINES_MAX < count {
-        return translation(at_line(Refusal::TooManyLines, 0), 0);
+    if LINES_MAX < recipe.count {
+        return Err(at_line(Refusal::TooManyLines, 0));
     }
-    judge_lines(width, count, lines)
+    judge_lines(recipe.width, recipe.lines())
 }
 
-// Line k, from 0; past the last, `clear 0`.
-fn line_at(lines: [Line; LINES_MAX], k: usize) -> Line
-    ensures { result ≡ get_or lines k unused }
+// The steps of a line, each with the text line, in as many slots.
+fn lay_line(width: u8, line: Line, text_line: u8, slots: &mut [Step])
+    requires { Slotted width line (length slots.old) }
+    ensures { slots.new ≡ map (with_line text_line) (line_steps width line) }
 {
-    if k < LINES_MAX { lines[k] } else { unused() }
+    let job = job_of(width, line);
+    for (j, slot) in slots.iter_mut().enumerate() {
+        *slot = with_line(line_step(width, job, j), text_line);
+    }
 }
 
-// The first `total` steps of the lines, and blank slots behind them. Line k, from 0, is text line k + 2.
-fn lay(width: u8, lines: [Line; LINES_MAX], total: usize) -> [Step; SLOTS]
-    requires { Layable width lines total }
-    ensures { result ≡ over (take total (numbered_of width 2 lines)) blanks }
+// The steps of the lines, and blank slots behind them. Line k, from 0, is text line k + 2.
+fn lay(width: u8, lines: &[Line]) -> [Step; SLOTS]
+    requires { Layable width lines.now }
+    ensures { result ≡ over (numbered_of width 2 lines.now) blanks }
 {
-    let none = blank();
-    let mut steps = [none; SLOTS];
-    let mut job = job_of(width, line_at(lines, 0));
-    let mut k: usize = 0;
-    let mut j: usize = 0;
-    let mut at: usize = 0;
-    while at < total {
-        let step = line_step(width, job, j);
-        let line = k as u8 + 2;
-        steps[at] = with_line(step, line);
-        at += 1;
-        j += 1;
-        if j == job.steps {
-            j = 0;
-            k += 1;
-            job = job_of(width, line_at(lines, k));
-        }
+    let mut steps = [blank(); SLOTS];
+    let mut at = 0;
+    for (k, line) in lines.iter().enumerate() {
+        let end = at + steps_of(width, way_of(line.verb));
+        lay_line(width, *line, k as u8 + 2, &mut steps[at..end]);
+        at = end;
     }
     steps
 }
 
 // Translates a recipe by value. There are slots for the steps of any recipe (`blanks_fit` of proofs/Settling).
-pub fn translate_array(recipe: Recipe) -> Listing
-    ensures { result ≡ translate_of recipe blanks }
+pub fn translate_array(recipe: Recipe) -> Result<Listing, Refused>
+    ensures { result ≡ array_of recipe }
 {
-    let judged = judge(recipe);
-    let refused = judged.refused;
-    let count = judged.count;
-    let width = recipe.width;
-    let lines = recipe.lines;
-    let steps = lay(width, lines, count);
-    Listing {
-        refused,
+    let count = judge(recipe)?;
+    Ok(Listing {
         count,
-        steps,
-    }
+        steps: lay(recipe.width, recipe.lines()),
+    })
 }
 
 // All registers 0, all flags clear.
 fn at_rest() -> State
     ensures { result ≡ at_rest }
 {
-    let flags = Flags {
-        x: false,
-        n: false,
-        z: false,
-        v: false,
-        c: false,
-    };
     State {
         d: [0; 8],
         a: [0; 8],
-        flags,
+        flags: Flags {
+            x: false,
+            n: false,
+            z: false,
+            v: false,
+            c: false,
+        },
     }
 }
 
@@ -253,23 +208,13 @@ fn at_rest() -> State
 fn figure(step: Step) -> u64
     ensures { (result ≡ figure_of step) × (result < 2 ^ 32) }
 {
-    let state = at_rest();
-    let performed = perform(state, step);
+    let performed = perform(at_rest(), step);
     performed.clocks as u64
 }
 
-pub(crate) fn clocks(steps: [Step; SLOTS], count: usize) -> u64
-    ensures { result ≡ clocks_of (take count steps) }
+pub(crate) fn clocks(steps: &[Step]) -> u64
+    requires { length steps.now ≤ array_slots }
+    ensures { result ≡ clocks_of steps.now }
 {
-    let mut sum: u64 = 0;
-    let mut k: usize = 0;
-    while k < SLOTS {
-        if count <= k {
-            return sum;
-        }
-        let step = steps[k];
-        sum += figure(step);
-        k += 1;
-    }
-    sum
+    steps.iter().map(|step| figure(*step)).sum()
 }

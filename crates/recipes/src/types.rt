@@ -1,7 +1,9 @@
 // What a recipe is, its limits, why one is refused, and what its reader, its translator and its run answer.
-ghost use Rattle.std.specs.Prelude.{◌≡◌};
-ghost use Rattle.recipes.specs.Recipe.{number_of, passes, is_nothing, at_column, at_line, no_refusal};
+ghost use Rattle.std.specs.Prelude.{◌≡◌, take};
+ghost use Rattle.recipes.specs.Recipe.{number_of, at_column, at_line, recipe_lines};
+ghost use Rattle.recipes.specs.Reader.{no_recipe};
 
+use super::lines::unused;
 use alu::types::Flags;
 use step::forms::Step;
 use step::runs::SLOTS;
@@ -18,7 +20,7 @@ pub const TEXT_MAX: usize = 1024;
 // Room for what is printed of any recipe (`answer_short` of proofs/Room).
 pub const PRINT_MAX: usize = 24576;
 
-#[derive(Clone, Copy)]
+#[derive(Clone, Copy, PartialEq, Eq)]
 pub enum Verb {
     Clear,
     Copy,
@@ -32,14 +34,15 @@ pub enum Verb {
 }
 
 // A recipe line. A verb that takes one number has it in `a`, and `b` doesn't count; the reader makes it 0.
-#[derive(Clone, Copy)]
+#[derive(Clone, Copy, PartialEq, Eq)]
 pub struct Line {
     pub verb: Verb,
     pub a: u8,
     pub b: u8,
 }
 
-// The first `count` of `lines` are the recipe's; the reader makes the others `clear 0`.
+// The first `count` of `lines` are the recipe's; the reader makes the others `clear 0`. An array with a count beside it: the
+// project has no heap.
 #[derive(Clone, Copy)]
 pub struct Recipe {
     pub width: u8,
@@ -47,10 +50,32 @@ pub struct Recipe {
     pub lines: [Line; LINES_MAX],
 }
 
-// Why a text or a recipe is refused: 4, 6 to 9 of document 01 and 11 to 14 of document 02; `Nothing` is 0.
-#[derive(Clone, Copy)]
+impl Recipe {
+    // The recipe's lines: all of the array's where `count` is above `LINES_MAX`.
+    pub fn lines(&self) -> &[Line]
+        ensures { result.now ≡ recipe_lines self.now }
+    {
+        &self.lines[..self.count.min(LINES_MAX)]
+    }
+}
+
+// Document 01's recipe of a text that is refused: `read(text).unwrap_or_default()` is the recipe that it names.
+impl Default for Recipe {
+    ghost is_default = { λ recipe. recipe ≡ no_recipe };
+
+    fn default() -> Recipe {
+        let lines = [unused(); LINES_MAX];
+        Recipe {
+            width: 1,
+            count: 0,
+            lines,
+        }
+    }
+}
+
+// Why a text or a recipe is refused: 4, 6 to 9 of document 01 and 11 to 14 of document 02.
+#[derive(Clone, Copy, PartialEq, Eq)]
 pub enum Refusal {
-    Nothing,
     WidthLine,
     NoSuchNumber,
     OntoItself,
@@ -62,75 +87,33 @@ pub enum Refusal {
     NoNewline,
 }
 
+// The number of a refusal.
+impl From<Refusal> for u8 {
+    ghost from_gives = { λ refusal n. n ≡ number_of refusal };
+
+    fn from(refusal: Refusal) -> u8 {
+        match refusal {
+            Refusal::WidthLine => 4,
+            Refusal::NoSuchNumber => 6,
+            Refusal::OntoItself => 7,
+            Refusal::TooManyLines => 8,
+            Refusal::NoSpace => 9,
+            Refusal::UnknownVerb => 11,
+            Refusal::WrongFields => 12,
+            Refusal::NotADigit => 13,
+            Refusal::NoNewline => 14,
+        }
+    }
+}
+
 // A refusal, the text line that it is of, and the column in it, in bytes; both count from 1. The line is 0 where none is to
-// blame, the column for every refusal but 11 to 14, and both are where nothing is refused.
-#[derive(Clone, Copy)]
+// blame, the column for every refusal but 11 to 14. Line k of a recipe, from 0, is text line k + 2 and the width line 1; too
+// many lines and too little room have line 0 where the translator refuses them.
+#[derive(Clone, Copy, PartialEq, Eq)]
 pub struct Refused {
     pub refusal: Refusal,
     pub line: usize,
     pub column: usize,
-}
-
-// What the reader answers. A refused text has a recipe of width 1 and no lines.
-#[derive(Clone, Copy)]
-pub struct Reading {
-    pub refused: Refused,
-    pub recipe: Recipe,
-}
-
-// What the translator says: its refusal, and the number of steps, 0 where it refuses. Line k, from 0, counts as text line
-// k + 2 and the width as line 1; too many lines and too little room have line 0.
-#[derive(Clone, Copy)]
-pub struct Translated {
-    pub refused: Refused,
-    pub count: usize,
-}
-
-// The same with the listing by value: its first `count` slots. The others are blank.
-#[derive(Clone, Copy)]
-pub struct Listing {
-    pub refused: Refused,
-    pub count: usize,
-    pub steps: [Step; SLOTS],
-}
-
-// What is told of all five flags. After add, sub and neg they are known: those of the whole number. After any other line
-// document 01 promises X alone. With no line, and where a recipe is refused, they are known: as they were.
-#[derive(Clone, Copy)]
-pub enum Codes {
-    Open,
-    Known(Flags),
-}
-
-// What came of a recipe that was run: its refusal; the registers, X, and what is told of all flags; the steps done and the
-// sum of their figures. A refused recipe leaves the state as it was.
-#[derive(Clone, Copy)]
-pub struct RecipeRun {
-    pub refused: Refused,
-    pub d: [u32; 8],
-    pub a: [u32; 8],
-    pub x: bool,
-    pub codes: Codes,
-    pub steps: u32,
-    pub clocks: u64,
-}
-
-// The number of a refusal, 0 for none.
-pub fn number(refusal: Refusal) -> u8
-    ensures { result ≡ number_of refusal }
-{
-    match refusal {
-        Refusal::Nothing => 0,
-        Refusal::WidthLine => 4,
-        Refusal::NoSuchNumber => 6,
-        Refusal::OntoItself => 7,
-        Refusal::TooManyLines => 8,
-        Refusal::NoSpace => 9,
-        Refusal::UnknownVerb => 11,
-        Refusal::WrongFields => 12,
-        Refusal::NotADigit => 13,
-        Refusal::NoNewline => 14,
-    }
 }
 
 // Every refusal is made here.
@@ -151,23 +134,31 @@ pub fn at_line(refusal: Refusal, line: usize) -> Refused
     at_column(refusal, line, 0)
 }
 
-pub(crate) fn no_refusal() -> Refused
-    ensures { result ≡ no_refusal }
-{
-    at_line(Refusal::Nothing, 0)
+// A listing by value: its first `count` slots. The others are blank.
+#[derive(Clone, Copy)]
+pub struct Listing {
+    pub count: usize,
+    pub steps: [Step; SLOTS],
 }
 
-// Whether it is no refusal.
-pub(crate) fn passes(refusal: Refusal) -> bool
-    ensures { result ≡ passes refusal }
-{
-    number(refusal) == 0
+impl Listing {
+    // The listing's steps: all slots where `count` is above `SLOTS`.
+    pub fn steps(&self) -> &[Step]
+        ensures { result.now ≡ take self.now.count self.now.steps }
+    {
+        &self.steps[..self.count.min(SLOTS)]
+    }
 }
 
-// Whether nothing is refused.
-pub fn is_nothing(refused: Refused) -> bool
-    ensures { result ≡ is_nothing refused }
-{
-    let refusal = refused.refusal;
-    passes(refusal)
+// What came of a recipe that was run: the registers and X; all five flags where they are told; the steps done and the sum of
+// their figures. After add, sub and neg the flags are told: those of the whole number. With no line they are as they were.
+// After any other line document 01 promises X alone.
+#[derive(Clone, Copy)]
+pub struct RecipeRun {
+    pub d: [u32; 8],
+    pub a: [u32; 8],
+    pub x: bool,
+    pub codes: Option<Flags>,
+    pub steps: u32,
+    pub clocks: u64,
 }

@@ -8,8 +8,9 @@
 --     rack_spare     spare slots stay
 --     rack_parts     a rack that is halted and continued is, box by box, the run in parts
 -- Before them the laws of the loop over the boxes. Assumes nothing.
-use Rattle.std.proofs.Common.{◌≡◌, ℕ, zero, suc, ◌+◌, ◌<◌, ◌≤◌, Bool, true, false, cond, ◌&&◌, leb, List, [], ◌∷◌, map, length, get_or, take, set, refl, ap, ◌∙◌, ap₂, arith, length-take-le, take_all, get_or-take, le-leb, leb-true}
+use Rattle.std.proofs.Common.{◌≡◌, ℕ, zero, suc, ◌+◌, ◌<◌, ◌≤◌, Bool, true, false, cond, ◌&&◌, leb, Ok, Err, IsOk, IsErr, List, [], ◌∷◌, map, length, get_or, take, set, refl, ap, subst, ◌∙◌, ap₂, arith, length-take-le, take_all, get_or-take, le-leb, leb-true}
 use mathlib.Core.Path.{subst⁻¹}
+use mathlib.Core.Bool.{false≢true}
 use lib.ListN.{length-map, get_or-map}
 use borrow.Author.Tests.{lt-leb}
 use Rattle.step.specs.declared.registers.State.{State}
@@ -17,11 +18,11 @@ use Rattle.step.specs.declared.forms.Step.{Step}
 use Rattle.step.specs.declared.steps.Performed.{Performed}
 use Rattle.step.specs.declared.runs.Ran.{Ran}
 use Rattle.step.specs.declared.racks.Boxed.{Boxed}
-use Rattle.step.specs.declared.racks.Fit.TheVariants.{Fits, TooMany}
+use Rattle.step.specs.declared.racks.TooManyBoxes.{TooManyBoxes}
 use Rattle.step.specs.Run.{after, run_of}
 use Rattle.step.specs.Lent.{over}
 use Rattle.step.specs.Parts.{run_in_parts}
-use Rattle.step.specs.Rack.{boxes_max, fit_number, plan_of, refused_rack, state_of, boxed_of, Rack, left, runs_of, planned, rack_of, ran_by, box_at, next_of, box_in_parts}
+use Rattle.step.specs.Rack.{boxes_max, Plan, boxes_of, plan_of, refused_rack, state_of, boxed_of, Rack, left, runs_of, planned, rack_of, ran_by, box_at, next_of, box_in_parts}
 use Rattle.step.proofs.Rows.{over_length, over_put, over_before, over_past}
 
 -- ---- when a rack is run
@@ -31,17 +32,17 @@ pub record Fitting (sets starts answers : ℕ) : Type 0 where
   pub places : sets ≤ starts
   pub slots : sets ≤ answers
 
-never : {A : Type 0} → TooMany ≡ Fits → A
-never e = let z : ◌≡◌ {A = ℕ} 15 0 = ap fit_number e in absurd (omega arith)
+never : {A : Type 0} → IsOk refused_rack → A
+never e = absurd (false≢true e)
 
 module _ (a b c : ℕ) where
-  pub plan_fits : Fitting a b c → plan_of a b c ≡ record { fit = Fits; boxes = a }
+  pub plan_fits : Fitting a b c → plan_of a b c ≡ Ok a
   plan_fits h = simp (le-leb a boxes_max h.few, le-leb a b h.places, le-leb a c h.slots)
 
-  pub plan_fitting : (plan_of a b c).fit ≡ Fits → Fitting a b c
+  pub plan_fitting : IsOk (plan_of a b c) → Fitting a b c
   plan_fitting = by_tests (leb a boxes_max) (leb a b) (leb a c) refl refl refl
     where
-      by_tests : (t u v : Bool) → leb a boxes_max ≡ t → leb a b ≡ u → leb a c ≡ v → (plan_of a b c).fit ≡ Fits → Fitting a b c
+      by_tests : (t u v : Bool) → leb a boxes_max ≡ t → leb a b ≡ u → leb a c ≡ v → IsOk (plan_of a b c) → Fitting a b c
       by_tests true true true p q r e = record { few = leb-true a boxes_max p; places = leb-true a b q; slots = leb-true a c r }
       by_tests true true false p q r e = never (rw (p, q, r) at e)
       by_tests true false v p q r e = never (rw (p, q) at e)
@@ -54,14 +55,14 @@ module _ (a b c : ℕ) where
   pub plan_short : b < a → plan_of a b c ≡ refused_rack
   plan_short h = by_test (leb a boxes_max) (leb a b) (leb a c) (lt-leb a b h)
     where
-      by_test : (t u v : Bool) → u ≡ false → cond (t && u && v) (record { fit = Fits; boxes = a }) refused_rack ≡ refused_rack
+      by_test : (t u v : Bool) → u ≡ false → cond (t && u && v) (Ok a) refused_rack ≡ refused_rack
       by_test true u v e = simp e
       by_test false u v e = refl
 
   pub plan_less : c < a → plan_of a b c ≡ refused_rack
   plan_less h = by_test (leb a boxes_max) (leb a b) (leb a c) (lt-leb a c h)
     where
-      by_test : (t u v : Bool) → v ≡ false → cond (t && u && v) (record { fit = Fits; boxes = a }) refused_rack ≡ refused_rack
+      by_test : (t u v : Bool) → v ≡ false → cond (t && u && v) (Ok a) refused_rack ≡ refused_rack
       by_test true true v e = simp e
       by_test true false v e = refl
       by_test false u v e = refl
@@ -75,14 +76,17 @@ pub record Within (n a b c : ℕ) : Type 0 where
 none_within : (a b c : ℕ) → Within 0 a b c
 none_within a b c = record { sets = omega arith; starts = omega arith; answers = omega arith }
 
-within_by : (t u v : Bool) (a b c : ℕ) → leb a boxes_max ≡ t → leb a b ≡ u → leb a c ≡ v → Within (plan_of a b c).boxes a b c
+within_by : (t u v : Bool) (a b c : ℕ) → leb a boxes_max ≡ t → leb a b ≡ u → leb a c ≡ v → Within (boxes_of (plan_of a b c)) a b c
 within_by true true true a b c p q r = rw (p, q, r) (record { sets = omega arith; starts = leb-true a b q; answers = leb-true a c r })
 within_by true true false a b c p q r = rw (p, q, r) (none_within a b c)
 within_by true false v a b c p q r = rw (p, q) (none_within a b c)
 within_by false u v a b c p q r = rw p (none_within a b c)
 
-pub plan_within : (sets starts answers : ℕ) → Within (plan_of sets starts answers).boxes sets starts answers
+pub plan_within : (sets starts answers : ℕ) → Within (boxes_of (plan_of sets starts answers)) sets starts answers
 plan_within a b c = within_by (leb a boxes_max) (leb a b) (leb a c) a b c refl refl refl
+
+pub within_plan : (n a b c : ℕ) → plan_of a b c ≡ Ok n → Within n a b c
+within_plan n a b c e = subst (λ (p : Plan). Within (boxes_of p) a b c) e (plan_within a b c)
 
 -- ---- the single runs
 
@@ -140,6 +144,12 @@ module _ {B : Type 0} (g : Ran → B) (rs : List Ran) (old : List B) (fits : len
 -- ---- what a rack leaves
 
 module _ (f : State → Step → Performed) (l : List Step) (sets : List State) (starts : List ℕ) (b : ℕ) (answers : List Boxed) where
+  -- a plan that is no number of boxes
+  pub planned_none : {p told : Plan} {refusal : TooManyBoxes} → IsErr told → p ≡ Err refusal → left told sets answers ≡ planned f l sets starts b answers p
+  unfolding runs_of
+  planned_none {told = Err refusal} h e = rw e refl
+  planned_none {told = Ok boxes} h e = absurd (false≢true h)
+
   -- nothing changes
   pub rack_refused : plan_of (length sets) (length starts) (length answers) ≡ refused_rack → rack_of f l sets starts b answers ≡ left refused_rack sets answers
   unfolding runs_of
@@ -152,10 +162,10 @@ module _ (f : State → Step → Performed) (l : List Step) (sets : List State) 
     as_many : length runs ≡ length sets
     as_many = runs_many f l b sets starts h.places
 
-    pub rack_run : rack_of f l sets starts b answers ≡ left (record { fit = Fits; boxes = length sets }) (over (map state_of runs) sets) (over (map boxed_of runs) answers)
+    pub rack_run : rack_of f l sets starts b answers ≡ left (Ok (length sets)) (over (map state_of runs) sets) (over (map boxed_of runs) answers)
     rack_run =
         ap (planned f l sets starts b answers) (plan_fits (length sets) (length starts) (length answers) h)
-        ∙ ap (λ (ss : List State). let rs = runs_of f l ss starts b in left (record { fit = Fits; boxes = length sets }) (over (map state_of rs) sets) (over (map boxed_of rs) answers))
+        ∙ ap (λ (ss : List State). let rs = runs_of f l ss starts b in left (Ok (length sets)) (over (map state_of rs) sets) (over (map boxed_of rs) answers))
         (take_all (length sets) sets (omega arith))
 
     pub rack_sets : length (rack_of f l sets starts b answers).sets ≡ length sets

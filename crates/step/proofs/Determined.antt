@@ -24,27 +24,27 @@ use Rattle.step.specs.declared.runs.Ran.{Ran}
 use Rattle.step.specs.declared.runs.Left.{Left}
 use Rattle.step.specs.declared.lent.Told.{Told}
 use Rattle.step.specs.Perform.{perform_of}
-use Rattle.step.specs.Run.{run_of}
+use Rattle.step.specs.Run.{run_of, resumed_of}
 use Rattle.step.specs.Lent.{performed, held, ran_in}
 use Rattle.step.specs.Rack.{Rack, left, rack_of}
 use Rattle.step.proofs.forms.operation_of.Reads as operation-of
 use Rattle.step.proofs.forms.operation_at.Reads as operation-at
-use Rattle.step.proofs.forms.number.Reads as operation-number
+use Rattle.step.proofs.forms.U8FromOperation.from.Reads as u8-from-operation
 use Rattle.step.proofs.forms.with_line.Reads as with-line
-use Rattle.step.proofs.steps.number.Reads as number
-use Rattle.step.proofs.steps.class.Reads as class
+use Rattle.step.proofs.steps.U32FromFault.from.Reads as u32-from-fault
+use Rattle.step.proofs.steps.U32FromTrap.from.Reads as u32-from-trap
 use Rattle.step.proofs.steps.perform.Reads as perform
 use Rattle.step.proofs.runs.run_array.Reads as run-array
 use Rattle.step.proofs.runs.begun.Reads as begun
-use Rattle.step.proofs.runs.resumed.Reads as resumed
-use Rattle.step.proofs.runs.lesser.Reads as lesser
-use Rattle.step.proofs.runs.end_line.Reads as end_line
-use Rattle.step.proofs.racks.number.Reads as fit-number
+use Rattle.step.proofs.runs.End.line.Reads as end-line
+use Rattle.step.proofs.racks.U8FromTooManyBoxes.from.Reads as u8-from-too-many-boxes
+use Rattle.step.proofs.racks.BoxedFromRan.from.Reads as boxed-from-ran
 use Rattle.step.proofs.racks.plan.Reads as plan
 use Rattle.step.specs.contracts.racks.rack as rack
 use Rattle.step.specs.contracts.lent.perform_in as perform-in
 use Rattle.step.specs.contracts.lent.run_in as run_in
 use Rattle.step.specs.contracts.lent.run as run
+use Rattle.step.specs.contracts.runs.resumed as resumed
 use Rattle.step.specs.contracts.lent.fetch as fetch
 use Rattle.step.specs.contracts.lent.store as store
 
@@ -52,17 +52,16 @@ pub determined : List Fixed
 determined =
     fixed operation-of.Learnt (one_equation _) ∷
     fixed operation-at.Learnt (one_equation _) ∷
-    fixed operation-number.Learnt (one_equation _) ∷
+    fixed u8-from-operation.Learnt (one_equation _) ∷
     fixed with-line.Learnt (one_equation _) ∷
-    fixed number.Learnt (one_equation _) ∷
-    fixed class.Learnt (one_equation _) ∷
+    fixed u32-from-fault.Learnt (one_equation _) ∷
+    fixed u32-from-trap.Learnt (one_equation _) ∷
     fixed perform.Learnt (one_equation _) ∷
     fixed run-array.Learnt (one_equation _) ∷
     fixed begun.Learnt (one_equation _) ∷
-    fixed resumed.Learnt (one_equation _) ∷
-    fixed lesser.Learnt (one_equation _) ∷
-    fixed end_line.Learnt (one_equation _) ∷
-    fixed fit-number.Learnt (one_equation _) ∷
+    fixed end-line.Learnt (one_equation _) ∷
+    fixed u8-from-too-many-boxes.Learnt (one_equation _) ∷
+    fixed boxed-from-ran.Learnt (one_equation _) ∷
     fixed plan.Learnt (one_equation _) ∷ []
 
 -- `whole r ws`: of the result r and of the last values ws behind all references that the function may write through
@@ -95,6 +94,9 @@ module _ {M : Type 1} {𝓤 : Ura M} (𝓛 : Logic 𝓤) (mem : Memory → SProp
   pub run_determined : (a : Args run.signature κs) → OneExit 𝓤 run.ended κs a (λ r ws. r) ((run.clauses 𝓛 mem go κs a).ensures tt)
   run_determined a = record { of = run_of perform_of a.0.now a.1.0 a.1.1.0 a.1.1.1.0; is = λ r ws. refl; all = λ r r' ws ws' e. (e, refl) }
 
+  pub resumed_determined : (a : Args resumed.signature κs) → OneExit 𝓤 resumed.ended κs a (λ r ws. r) ((resumed.clauses 𝓛 mem go κs a).ensures tt)
+  resumed_determined a = record { of = resumed_of perform_of a.0.now a.1.0 a.1.1.0; is = λ r ws. refl; all = λ r r' ws ws' e. (e, refl) }
+
   pub fetch_determined : (a : Args fetch.signature κs) → OneExit 𝓤 fetch.ended κs a (λ r ws. r) ((fetch.clauses 𝓛 mem go κs a).ensures tt)
   fetch_determined a = record { of = get_or a.0.now a.1.0 a.1.1.0; is = λ r ws. refl; all = λ r r' ws ws' e. (e, refl) }
 
@@ -119,5 +121,5 @@ module _ {M : Type 1} {𝓤 : Ura M} (𝓛 : Logic 𝓤) (mem : Memory → SProp
   rack_determined a = record {
     of = rack_of perform_of a.0.now a.1.0.now a.1.1.0.now a.1.1.1.0 a.1.1.1.1.0.now;
     is = λ r ws. refl;
-    all = λ r r' ws ws' e. (ap (λ (k : Rack). k.racked) e, ap (λ (k : Rack). (tt, (k.sets, (tt, (tt, (k.answers, tt)))))) e);
+    all = λ r r' ws ws' e. (ap (λ (k : Rack). k.plan) e, ap (λ (k : Rack). (tt, (k.sets, (tt, (tt, (k.answers, tt)))))) e);
   }

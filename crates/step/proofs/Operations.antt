@@ -3,9 +3,10 @@
 --     places     the place of each row is its operation's number
 --     each_row   a test that passes at all rows and their places passes at each operation's
 --     missed     a number that is none of the places names none
-use Rattle.std.proofs.Common.{◌≡◌, ℕ, zero, suc, ◌+◌, ◌<◌, ◌≤◌, Bool, true, false, ◌&&◌, eqb, List, [], ◌∷◌, length, get_or, sym, refl, ◌∙◌, le_of_suc-le-suc, not-suc-le-zero, add-zero, add-suc, suc-add, zero-add, arith, lit<}
+use Rattle.std.proofs.Common.{◌≡◌, ℕ, zero, suc, ◌+◌, ◌<◌, ◌≤◌, Bool, true, false, ◌&&◌, eqb, Some, None, List, [], ◌∷◌, length, get_or, slice_get, sym, refl, ◌∙◌, le_of_suc-le-suc, not-suc-le-zero, add-zero, add-suc, suc-add, zero-add, arith, lit<}
 use mathlib.Core.Bool.{false≢true}
-use lib.ListN.{get_or-eq_default}
+use Rattle.std.proofs.lemmas.Grind.{common_steps}
+use Rattle.std.proofs.lemmas.Option.{gets}
 use Rattle.alu.specs.declared.shift_rotate.ShiftOp.TheVariants.{Asl, Asr, Lsl, Lsr, Rol, Ror, Roxl, Roxr}
 use Rattle.alu.specs.declared.bit_manip.BitOp.TheVariants.{Btst, Bset, Bclr, Bchg}
 use Rattle.step.specs.declared.forms.TwoOp.TheVariants.{Add, Sub, Cmp, Addx, Subx}
@@ -14,11 +15,10 @@ use Rattle.step.specs.declared.forms.QuickOp.TheVariants.{Addq, Subq}
 use Rattle.step.specs.declared.forms.OneOp.TheVariants.{Clr, Neg, Negx, Not, Ext}
 use Rattle.step.specs.declared.forms.Operation.{Operation}
 use Rattle.step.specs.declared.forms.Operation.TheVariants.{Two, Address, Quick, QuickAddress, One, Shift, Bit, Chk}
-use Rattle.step.specs.declared.forms.Found.TheVariants.{Is}
 use Rattle.step.specs.Operations.{Row, row, operations, operation_at, operation_number}
 
 abbrev pub Stands : Operation → Type 0
-Stands o = (operation_number o < length operations) × (operation_at (operation_number o) ≡ Is o)
+Stands o = (operation_number o < length operations) × (operation_at (operation_number o) ≡ Some o)
 
 pub stands : (o : Operation) → Stands o
 stands (Two Add) = (lit< tt, refl)
@@ -91,7 +91,7 @@ above {T = T} (suc m) k n h t =
     (below.0.0, omega (arith, below.1))
 
 -- so it is past the table
-pub missed : {A : Type 0} (table : List A) (other : A) (n : ℕ) → Missed (Unit {0}) (length table) 0 n → other ≡ get_or table n other
-missed table other n t =
+pub missed : {A : Type 0} (table : List A) (n : ℕ) → Missed (Unit {0}) (length table) 0 n → None ≡ slice_get table n
+missed table n t =
     let past : length table ≤ n = omega (arith, (above (length table) 0 n (λ u. omega arith) t).1) in
-    sym (get_or-eq_default table other past)
+    grind (arith, common_steps, gets)

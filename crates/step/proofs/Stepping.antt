@@ -24,15 +24,14 @@ use Rattle.step.specs.declared.steps.Outcome.{Outcome}
 use Rattle.step.specs.declared.steps.Outcome.TheVariants.{Done, Trapped, Refused}
 use Rattle.step.specs.declared.steps.Performed.{Performed}
 use Rattle.step.specs.declared.steps.Acted.{Acted}
-use Rattle.step.specs.declared.steps.Counted.{Counted}
 use Rattle.step.specs.declared.runs.End.TheVariants as End
 use Rattle.step.specs.declared.runs.Left.{Left}
 use Rattle.step.specs.declared.runs.Ran.{Ran}
 use Rattle.step.specs.Registers.{data_of, merged_of}
-use Rattle.step.specs.Perform.{Ruling, Sound, refusal_of, there, count_there, count_within, not_byte, to_data, to_address, outcome_of, checked_of, timed, judged, perform_of}
+use Rattle.step.specs.Perform.{Ruling, Sound, refusal_of, count_there, count_within, not_byte, to_data, to_address, outcome_of, checked_of, timed, judged, perform_of}
 use Rattle.step.specs.Run.{ends, followed, run_of}
 use Rattle.step.specs.Lent.{held, ran_in}
-use Rattle.step.specs.Course.{came_out, leaving, said_of, refused_of, counted_of, count_fault, outcome_from}
+use Rattle.step.specs.Course.{came_out, leaving, said_of, refused_of, count_fault, outcome_from}
 use Rattle.step.proofs.Laws.{no, run_end, run_step}
 use Rattle.step.proofs.Sound.{refused_free}
 use Rattle.step.proofs.Figures.{perform_fits}
@@ -56,9 +55,6 @@ pub sound : {there sized small : Bool} → there ≡ true → sized ≡ true →
 sound e g h = rw (e, g, h)
 
 -- ---- a count
-
-pub count_register : (least most modulus : ℕ) (s : State) (r : D) → ◌≡◌ {A = Counted} record { fits = there r.0; value = data_of s r % modulus } (counted_of least most modulus s (Count.Data r))
-count_register least most modulus s r = ap {B = Counted} (λ (fits : Bool). record { fits = fits; value = data_of s r % modulus }) (sym (and-true (there r.0)))
 
 -- of a step whose destination is there: t says so
 

@@ -1,6 +1,6 @@
 -- Terms of private functions' contracts: a step on registers that are lent, and the loop of a run. No contract of a public function names anything of
 -- this page, and a reader can leave it out. Assumes nothing.
-use Rattle.std.specs.Prelude.{◌≡◌, ℕ, ◌+◌, ◌-◌, ◌*◌, ◌^◌, ◌<◌, ◌≤◌, min, Bool, true, false, cond, ◌&&◌, List, nat_le, nat_lt}
+use Rattle.std.specs.Prelude.{◌≡◌, ℕ, ◌+◌, ◌-◌, ◌*◌, ◌^◌, ◌<◌, ◌≤◌, min, Bool, true, false, cond, ◌&&◌, Option, Some, None, List, nat_le, nat_lt}
 use Rattle.alu.specs.declared.types.Flags.{Flags}
 use Rattle.alu.specs.declared.types.Answer.{Answer}
 use Rattle.step.specs.declared.registers.State.{State}
@@ -11,7 +11,6 @@ use Rattle.step.specs.declared.forms.Count.{Count}
 use Rattle.step.specs.declared.steps.Acted.{Acted}
 use Rattle.step.specs.declared.steps.Came.{Came}
 use Rattle.step.specs.declared.steps.Came.TheVariants as How
-use Rattle.step.specs.declared.steps.Counted.{Counted}
 use Rattle.step.specs.declared.steps.Fault.{Fault}
 use Rattle.step.specs.declared.steps.Fault.TheVariants.{BadSmall, NoSuchSize, NoSuchRegister, StartPastEnd}
 use Rattle.step.specs.declared.steps.Trap.TheVariants.{Over, Short, Below}
@@ -53,9 +52,9 @@ said_of came answer = record { came = came; flags = answer.flags; clocks = answe
 abbrev pub refused_of : Came → Flags → Acted
 refused_of came f = record { came = came; flags = f; clocks = 0 }
 
--- a shift's count or a bit's number: whether it may be, a register that is there or a small number in range, and its value
-abbrev pub counted_of : (least most modulus : ℕ) → State → Count → Counted
-counted_of least most modulus s c = record { fits = count_there c && count_within least most c; value = count_value s modulus c }
+-- a shift's count or a bit's number, if it may be: a register that is there or a small number in range
+abbrev pub counted_of : (least most modulus : ℕ) → State → Count → Option ℕ
+counted_of least most modulus s c = cond (count_there c && count_within least most c) (Some (count_value s modulus c)) None
 
 -- why one that doesn't fit is refused
 abbrev pub count_fault : Count → Came

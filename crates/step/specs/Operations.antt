@@ -1,7 +1,7 @@
 -- The thirty operations of document 01's forms table, as steps are numbered and printed: one list of rows, and the place of a row is the number of its
 -- operation (`places` and `stands` of proofs/Operations). `alu_call` goes by the same numbers (`same_table` of recipe_calls/proofs/Agree). Assumes
 -- nothing.
-use Rattle.std.specs.Prelude.{ℕ, List, [], ◌∷◌, map, get_or, slice_index_or}
+use Rattle.std.specs.Prelude.{ℕ, Option, List, [], ◌∷◌, map, get_or, slice_get}
 use Prim.Native.String.{String}
 use Rattle.alu.specs.declared.shift_rotate.ShiftOp.TheVariants.{Asl, Asr, Lsl, Lsr, Rol, Ror, Roxl, Roxr}
 use Rattle.alu.specs.declared.bit_manip.BitOp.TheVariants.{Btst, Bset, Bclr, Bchg}
@@ -13,8 +13,6 @@ use Rattle.step.specs.declared.forms.Register.TheVariants as Register
 use Rattle.step.specs.declared.forms.Form.{Form}
 use Rattle.step.specs.declared.forms.Operation.{Operation}
 use Rattle.step.specs.declared.forms.Operation.TheVariants.{Two, Address, Quick, QuickAddress, One, Shift, Bit, Chk}
-use Rattle.step.specs.declared.forms.Found.{Found}
-use Rattle.step.specs.declared.forms.Found.TheVariants.{Is, NoOperation}
 
 -- an operation, and its name where a listing is printed
 pub record Row : Type 0 where
@@ -59,8 +57,8 @@ operations =
     row Chk "CHK" ∷ []
 
 -- the operation of a number, if there is a row of that place
-abbrev pub operation_at : ℕ → Found
-operation_at n = slice_index_or (map (λ (r : Row). Is r.operation) operations) n NoOperation
+abbrev pub operation_at : ℕ → Option Operation
+operation_at n = slice_get (map (λ (r : Row). r.operation) operations) n
 
 -- the place of an operation's row
 abbrev pub operation_number : Operation → ℕ

@@ -1,15 +1,13 @@
 -- A rack of boxes: document 02, item 2. One listing is run on each set of a row, from the box's own start place and with the whole budget. First what
 -- `rack` answers and leaves, over any step function f; then a rack that is halted and continued, of which the laws speak (proofs/Boxes) and demand 3 with
 -- them. Assumes nothing.
-use Rattle.std.specs.Prelude.{ℕ, cond, ◌&&◌, List, [], ◌∷◌, map, length, take, nat_le, slice_index_or}
+use Rattle.std.specs.Prelude.{ℕ, Result, Ok, Err, cond, ◌&&◌, List, [], ◌∷◌, map, length, take, nat_le, slice_index_or}
 use Rattle.step.specs.declared.registers.State.{State}
 use Rattle.step.specs.declared.forms.Step.{Step}
 use Rattle.step.specs.declared.steps.Performed.{Performed}
 use Rattle.step.specs.declared.runs.Ran.{Ran}
 use Rattle.step.specs.declared.racks.Boxed.{Boxed}
-use Rattle.step.specs.declared.racks.Fit.{Fit}
-use Rattle.step.specs.declared.racks.Fit.TheVariants.{Fits, TooMany}
-use Rattle.step.specs.declared.racks.Racked.{Racked}
+use Rattle.step.specs.declared.racks.TooManyBoxes.{TooManyBoxes}
 use Rattle.step.specs.Run.{after, run_of}
 use Rattle.step.specs.Lent.{over}
 
@@ -17,17 +15,26 @@ use Rattle.step.specs.Lent.{over}
 abbrev pub boxes_max : ℕ
 boxes_max = 64
 
+-- how many boxes a rack runs, or that it is refused
+abbrev pub Plan : Type 0
+Plan = Result ℕ TooManyBoxes
+
 -- document 02's number; 0 where nothing is refused
-abbrev pub fit_number : Fit → ℕ
-fit_number Fits = 0
-fit_number TooMany = 15
+abbrev pub fit_number : Plan → ℕ
+fit_number (Ok boxes) = 0
+fit_number (Err refusal) = 15
 
--- a rack is run if it has at most `boxes_max` sets, and a start place and a slot for each; refused, it runs no box
-abbrev pub refused_rack : Racked
-refused_rack = record { fit = TooMany; boxes = 0 }
+-- a refused rack runs no box
+abbrev pub boxes_of : Plan → ℕ
+boxes_of (Ok boxes) = boxes
+boxes_of (Err refusal) = 0
 
-abbrev pub plan_of : (sets starts answers : ℕ) → Racked
-plan_of sets starts answers = cond (nat_le sets boxes_max && nat_le sets starts && nat_le sets answers) (record { fit = Fits; boxes = sets }) refused_rack
+abbrev pub refused_rack : Plan
+refused_rack = Err (record {})
+
+-- a rack is run if it has at most `boxes_max` sets, and a start place and a slot for each
+abbrev pub plan_of : (sets starts answers : ℕ) → Plan
+plan_of sets starts answers = cond (nat_le sets boxes_max && nat_le sets starts && nat_le sets answers) (Ok sets) refused_rack
 
 -- what a run leaves for the two rows: its state for the sets, all else for the answers
 abbrev pub state_of : Ran → State
@@ -38,12 +45,12 @@ boxed_of r = record { end = r.end; next = r.next; steps = r.steps; clocks = r.cl
 
 -- what a rack answers, and the two rows as it leaves them
 pub record Rack : Type 0 where
-  pub racked : Racked
+  pub plan : Plan
   pub sets : List State
   pub answers : List Boxed
 
-abbrev pub left : Racked → List State → List Boxed → Rack
-left racked sets answers = record { racked = racked; sets = sets; answers = answers }
+abbrev pub left : Plan → List State → List Boxed → Rack
+left plan sets answers = record { plan = plan; sets = sets; answers = answers }
 
 module _ (f : State → Step → Performed) (l : List Step) where
   -- the single runs with the budget b, each of a set from its start place; spare start places are not read
@@ -53,9 +60,9 @@ module _ (f : State → Step → Performed) (l : List Step) where
   runs_of (s ∷ sets) (p ∷ starts) b = run_of f l s p b ∷ runs_of sets starts b
 
   -- the boxes that the plan has get what their runs leave; of both rows all else stays
-  abbrev pub planned : List State → (starts : List ℕ) → (b : ℕ) → List Boxed → Racked → Rack
+  abbrev pub planned : List State → (starts : List ℕ) → (b : ℕ) → List Boxed → Plan → Rack
   planned sets starts b answers plan =
-      let runs = runs_of (take plan.boxes sets) starts b in left plan (over (map state_of runs) sets) (over (map boxed_of runs) answers)
+      let runs = runs_of (take (boxes_of plan) sets) starts b in left plan (over (map state_of runs) sets) (over (map boxed_of runs) answers)
 
   abbrev pub rack_of : List State → (starts : List ℕ) → (b : ℕ) → List Boxed → Rack
   rack_of sets starts b answers = planned sets starts b answers (plan_of (length sets) (length starts) (length answers))

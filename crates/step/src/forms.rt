@@ -1,6 +1,5 @@
 // What a step may be: document 01's forms, their operations, and the operations by number.
 ghost use Rattle.std.specs.Prelude.{◌≡◌};
-ghost use Rattle.step.specs.declared.forms.Operation.TheVariants as Operation;
 ghost use Rattle.step.specs.Lines.{with_line};
 ghost use Rattle.step.specs.Operations.{operation_of, operation_number, operation_at};
 
@@ -81,9 +80,7 @@ pub struct Step {
 pub fn with_line(step: Step, line: u8) -> Step
     ensures { result ≡ with_line line step }
 {
-    let size = step.size;
-    let form = step.form;
-    Step { size, form, line }
+    Step { line, ..step }
 }
 
 // What a form does, apart from its operands. ADDQ and SUBQ on an address register are operations of their own.
@@ -99,23 +96,14 @@ pub enum Operation {
     Chk,
 }
 
-// The operation of a number, if it names one.
-#[derive(Clone, Copy)]
-pub enum Found {
-    Is(Operation),
-    NoOperation,
-}
-
 pub fn operation_of(form: Form) -> Operation
     ensures { result ≡ operation_of form }
 {
     match form {
         Form::Two(op, _, _) => Operation::Two(op),
         Form::Address(op, _, _) => Operation::Address(op),
-        Form::Quick(op, _, t) => match t {
-            Register::Data(_) => Operation::Quick(op),
-            Register::Address(_) => Operation::QuickAddress(op),
-        },
+        Form::Quick(op, _, Register::Data(_)) => Operation::Quick(op),
+        Form::Quick(op, _, Register::Address(_)) => Operation::QuickAddress(op),
         Form::One(op, _) => Operation::One(op),
         Form::Shift(op, _, _) => Operation::Shift(op),
         Form::Bit(op, _, _) => Operation::Bit(op),
@@ -123,122 +111,82 @@ pub fn operation_of(form: Form) -> Operation
     }
 }
 
-pub fn operation_at(number: u8) -> Found
+// The operation of a number, if it names one.
+pub fn operation_at(number: u8) -> Option<Operation>
     ensures { result ≡ operation_at number }
 {
-    match number {
-        0x00 => Found::Is(Operation::Two(TwoOp::Add)),
-        0x01 => Found::Is(Operation::Two(TwoOp::Sub)),
-        0x02 => Found::Is(Operation::Two(TwoOp::Cmp)),
-        0x03 => Found::Is(Operation::Two(TwoOp::Addx)),
-        0x04 => Found::Is(Operation::Two(TwoOp::Subx)),
-        0x05 => Found::Is(Operation::Address(AddressOp::Adda)),
-        0x06 => Found::Is(Operation::Address(AddressOp::Suba)),
-        0x07 => Found::Is(Operation::Address(AddressOp::Cmpa)),
-        0x08 => Found::Is(Operation::Quick(QuickOp::Addq)),
-        0x09 => Found::Is(Operation::Quick(QuickOp::Subq)),
-        0x0a => Found::Is(Operation::QuickAddress(QuickOp::Addq)),
-        0x0b => Found::Is(Operation::QuickAddress(QuickOp::Subq)),
-        0x0c => Found::Is(Operation::One(OneOp::Clr)),
-        0x0d => Found::Is(Operation::One(OneOp::Neg)),
-        0x0e => Found::Is(Operation::One(OneOp::Negx)),
-        0x0f => Found::Is(Operation::One(OneOp::Not)),
-        0x10 => Found::Is(Operation::One(OneOp::Ext)),
-        0x11 => Found::Is(Operation::Shift(ShiftOp::Asl)),
-        0x12 => Found::Is(Operation::Shift(ShiftOp::Asr)),
-        0x13 => Found::Is(Operation::Shift(ShiftOp::Lsl)),
-        0x14 => Found::Is(Operation::Shift(ShiftOp::Lsr)),
-        0x15 => Found::Is(Operation::Shift(ShiftOp::Rol)),
-        0x16 => Found::Is(Operation::Shift(ShiftOp::Ror)),
-        0x17 => Found::Is(Operation::Shift(ShiftOp::Roxl)),
-        0x18 => Found::Is(Operation::Shift(ShiftOp::Roxr)),
-        0x19 => Found::Is(Operation::Bit(BitOp::Btst)),
-        0x1a => Found::Is(Operation::Bit(BitOp::Bset)),
-        0x1b => Found::Is(Operation::Bit(BitOp::Bclr)),
-        0x1c => Found::Is(Operation::Bit(BitOp::Bchg)),
-        0x1d => Found::Is(Operation::Chk),
-        _ => Found::NoOperation,
-    }
-}
-
-fn two_number(op: TwoOp) -> u8
-    ensures { result ≡ operation_number (Operation.Two op) }
-{
-    match op {
-        TwoOp::Add => 0x00,
-        TwoOp::Sub => 0x01,
-        TwoOp::Cmp => 0x02,
-        TwoOp::Addx => 0x03,
-        TwoOp::Subx => 0x04,
-    }
-}
-
-fn address_number(op: AddressOp) -> u8
-    ensures { result ≡ operation_number (Operation.Address op) }
-{
-    match op {
-        AddressOp::Adda => 0x05,
-        AddressOp::Suba => 0x06,
-        AddressOp::Cmpa => 0x07,
-    }
-}
-
-fn one_number(op: OneOp) -> u8
-    ensures { result ≡ operation_number (Operation.One op) }
-{
-    match op {
-        OneOp::Clr => 0x0c,
-        OneOp::Neg => 0x0d,
-        OneOp::Negx => 0x0e,
-        OneOp::Not => 0x0f,
-        OneOp::Ext => 0x10,
-    }
-}
-
-fn shift_number(op: ShiftOp) -> u8
-    ensures { result ≡ operation_number (Operation.Shift op) }
-{
-    match op {
-        ShiftOp::Asl => 0x11,
-        ShiftOp::Asr => 0x12,
-        ShiftOp::Lsl => 0x13,
-        ShiftOp::Lsr => 0x14,
-        ShiftOp::Rol => 0x15,
-        ShiftOp::Ror => 0x16,
-        ShiftOp::Roxl => 0x17,
-        ShiftOp::Roxr => 0x18,
-    }
-}
-
-fn bit_number(op: BitOp) -> u8
-    ensures { result ≡ operation_number (Operation.Bit op) }
-{
-    match op {
-        BitOp::Btst => 0x19,
-        BitOp::Bset => 0x1a,
-        BitOp::Bclr => 0x1b,
-        BitOp::Bchg => 0x1c,
-    }
+    let operation = match number {
+        0x00 => Operation::Two(TwoOp::Add),
+        0x01 => Operation::Two(TwoOp::Sub),
+        0x02 => Operation::Two(TwoOp::Cmp),
+        0x03 => Operation::Two(TwoOp::Addx),
+        0x04 => Operation::Two(TwoOp::Subx),
+        0x05 => Operation::Address(AddressOp::Adda),
+        0x06 => Operation::Address(AddressOp::Suba),
+        0x07 => Operation::Address(AddressOp::Cmpa),
+        0x08 => Operation::Quick(QuickOp::Addq),
+        0x09 => Operation::Quick(QuickOp::Subq),
+        0x0a => Operation::QuickAddress(QuickOp::Addq),
+        0x0b => Operation::QuickAddress(QuickOp::Subq),
+        0x0c => Operation::One(OneOp::Clr),
+        0x0d => Operation::One(OneOp::Neg),
+        0x0e => Operation::One(OneOp::Negx),
+        0x0f => Operation::One(OneOp::Not),
+        0x10 => Operation::One(OneOp::Ext),
+        0x11 => Operation::Shift(ShiftOp::Asl),
+        0x12 => Operation::Shift(ShiftOp::Asr),
+        0x13 => Operation::Shift(ShiftOp::Lsl),
+        0x14 => Operation::Shift(ShiftOp::Lsr),
+        0x15 => Operation::Shift(ShiftOp::Rol),
+        0x16 => Operation::Shift(ShiftOp::Ror),
+        0x17 => Operation::Shift(ShiftOp::Roxl),
+        0x18 => Operation::Shift(ShiftOp::Roxr),
+        0x19 => Operation::Bit(BitOp::Btst),
+        0x1a => Operation::Bit(BitOp::Bset),
+        0x1b => Operation::Bit(BitOp::Bclr),
+        0x1c => Operation::Bit(BitOp::Bchg),
+        0x1d => Operation::Chk,
+        _ => return None,
+    };
+    Some(operation)
 }
 
 // The place of an operation in the table.
-pub fn number(operation: Operation) -> u8
-    ensures { result ≡ operation_number operation }
-{
-    match operation {
-        Operation::Two(op) => two_number(op),
-        Operation::Address(op) => address_number(op),
-        Operation::Quick(op) => match op {
-            QuickOp::Addq => 0x08,
-            QuickOp::Subq => 0x09,
-        },
-        Operation::QuickAddress(op) => match op {
-            QuickOp::Addq => 0x0a,
-            QuickOp::Subq => 0x0b,
-        },
-        Operation::One(op) => one_number(op),
-        Operation::Shift(op) => shift_number(op),
-        Operation::Bit(op) => bit_number(op),
-        Operation::Chk => 0x1d,
+impl From<Operation> for u8 {
+    ghost from_gives = { λ operation number. number ≡ operation_number operation };
+
+    fn from(operation: Operation) -> u8 {
+        match operation {
+            Operation::Two(TwoOp::Add) => 0x00,
+            Operation::Two(TwoOp::Sub) => 0x01,
+            Operation::Two(TwoOp::Cmp) => 0x02,
+            Operation::Two(TwoOp::Addx) => 0x03,
+            Operation::Two(TwoOp::Subx) => 0x04,
+            Operation::Address(AddressOp::Adda) => 0x05,
+            Operation::Address(AddressOp::Suba) => 0x06,
+            Operation::Address(AddressOp::Cmpa) => 0x07,
+            Operation::Quick(QuickOp::Addq) => 0x08,
+            Operation::Quick(QuickOp::Subq) => 0x09,
+            Operation::QuickAddress(QuickOp::Addq) => 0x0a,
+            Operation::QuickAddress(QuickOp::Subq) => 0x0b,
+            Operation::One(OneOp::Clr) => 0x0c,
+            Operation::One(OneOp::Neg) => 0x0d,
+            Operation::One(OneOp::Negx) => 0x0e,
+            Operation::One(OneOp::Not) => 0x0f,
+            Operation::One(OneOp::Ext) => 0x10,
+            Operation::Shift(ShiftOp::Asl) => 0x11,
+            Operation::Shift(ShiftOp::Asr) => 0x12,
+            Operation::Shift(ShiftOp::Lsl) => 0x13,
+            Operation::Shift(ShiftOp::Lsr) => 0x14,
+            Operation::Shift(ShiftOp::Rol) => 0x15,
+            Operation::Shift(ShiftOp::Ror) => 0x16,
+            Operation::Shift(ShiftOp::Roxl) => 0x17,
+            Operation::Shift(ShiftOp::Roxr) => 0x18,
+            Operation::Bit(BitOp::Btst) => 0x19,
+            Operation::Bit(BitOp::Bset) => 0x1a,
+            Operation::Bit(BitOp::Bclr) => 0x1b,
+            Operation::Bit(BitOp::Bchg) => 0x1c,
+            Operation::Chk => 0x1d,
+        }
     }
 }

@@ -32,7 +32,8 @@ pub fn perform_in(state: &mut State, step: Step) -> Told
 }
 
 // A run on registers that are lent, and changed there: the one loop, which every other way of running calls. A trap's or a
-// refusal's line is read behind it; before a start past the end no step stands either, and the line is 0.
+// refusal's line is read behind it; before a start past the end no step stands either, and the line is 0. The two rows stay apart
+// (a `&mut State` for both, tried as steps.rt says: 61.7).
 pub fn run_in(
     listing: &[Step],
     d: &mut [u32; 8],
@@ -95,13 +96,10 @@ pub(crate) fn run_one(step: Step, d: &mut [u32; 8], a: &mut [u32; 8], flags: Fla
 pub fn fetch(listing: &[Step], at: usize, other: Step) -> Step
     ensures { result ≡ slice_index_or listing.now at other }
 {
-    if at < listing.len() {
-        return listing[at];
-    }
-    other
+    listing.get(at).copied().unwrap_or(other)
 }
 
-// A step is written to a place of a listing; past the end, nothing is.
+// A step is written to a place of a listing; past the end, nothing is. By index: what stands behind a `get_mut` that is over, no proof knows.
 pub fn store(listing: &mut [Step], at: usize, step: Step)
     ensures { listing.new ≡ slice_set listing.old at step }
 {

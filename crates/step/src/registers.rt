@@ -2,7 +2,7 @@
 ghost use Rattle.std.specs.Prelude.{◌≡◌, slice_index, slice_set};
 ghost use Rattle.step.specs.Registers.{merged_of};
 
-use alu::types::{Flags, Size, width_of};
+use alu::types::{Flags, Size};
 
 // The number of a data register.
 #[derive(Clone, Copy)]
@@ -24,25 +24,25 @@ pub struct State {
 pub(crate) fn read(registers: &[u32], r: u8) -> u32
     ensures { result ≡ slice_index registers.now r }
 {
-    let i = r as usize;
-    if i < registers.len() { registers[i] } else { 0 }
+    registers.get(usize::from(r)).copied().unwrap_or(0)
 }
 
-// A register is written; nothing for a number past the end.
+// A register is written; nothing for a number past the end. By index, as `store` of lent.
 pub(crate) fn write(registers: &mut [u32], r: u8, value: u32)
     ensures { registers.new ≡ slice_set registers.old r value }
 {
-    let i = r as usize;
+    let i = usize::from(r);
     if i < registers.len() {
         registers[i] = value;
     }
 }
 
 // `old` with its low bits replaced by those of `value`, as many as the size has.
+#[tactic(auto, using(crate::proofs::Sound::merged_mask))]
 pub(crate) fn merged(size: Size, old: u32, value: u32) -> u32
     ensures { result ≡ merged_of size old value }
 {
-    let w = width_of(size);
+    let w = size.width();
     let low = w.mask;
     old & !low | value & low
 }

@@ -1,5 +1,5 @@
 // A run of a listing of steps with a budget.
-ghost use Rattle.std.specs.Prelude.{◌≡◌, ◌-◌, min, take};
+ghost use Rattle.std.specs.Prelude.{◌≡◌, ◌-◌, take};
 ghost use Rattle.step.specs.Perform.{perform_of};
 ghost use Rattle.step.specs.declared.runs.End.TheVariants as End;
 ghost use Rattle.step.specs.Run.{ends, end_line, run_of, resumed_of};
@@ -7,9 +7,9 @@ ghost use Rattle.step.specs.Lent.{held, ran_in};
 ghost use Rattle.step.specs.Course.{came_out, is_done, course_of, stop_of, begin_of, Advanced, end_at, stood_at, nowhere, halted_of, left_of, Ready, Halts};
 
 use super::forms::{Form, Step};
-use super::lent::run_first;
+use super::lent::{run, run_first};
 use super::registers::{D, State};
-use super::steps::{Came, Fault, Outcome, Trap, is_done, outcome_of, perform_on};
+use super::steps::{Came, Fault, Outcome, Trap, perform_on};
 use alu::types::{Flags, Size};
 
 // The slots of a listing that stands in an array.
@@ -24,15 +24,16 @@ pub enum End {
     Refused(Fault, usize, u8),
 }
 
-// The text line of the step that was trapped or refused; 0 where there is none.
-pub fn end_line(end: End) -> u8
-    ensures { result ≡ end_line end }
-{
-    match end {
-        End::Finished => 0,
-        End::Budget => 0,
-        End::Trapped(_, _, line) => line,
-        End::Refused(_, _, line) => line,
+impl End {
+    // The text line of the step that was trapped or refused; 0 where there is none.
+    pub fn line(self) -> u8
+        ensures { result ≡ end_line self }
+    {
+        match self {
+            End::Finished | End::Budget => 0,
+            End::Trapped(_, _, line) => line,
+            End::Refused(_, _, line) => line,
+        }
     }
 }
 
@@ -67,7 +68,7 @@ pub(crate) struct Course {
     pub flags: Flags,
 }
 
-// Where a run stands. The flags go over one by one, as in alu::types::accepted.
+// Where a run stands. The flags go over one by one, as in `said` of steps.
 fn stands(going: bool, came: Came, next: usize, clocks: u64, flags: Flags) -> Course
     ensures { result ≡ course_of going came next clocks flags }
 {
@@ -76,13 +77,7 @@ fn stands(going: bool, came: Came, next: usize, clocks: u64, flags: Flags) -> Co
         came,
         next,
         clocks,
-        flags: Flags {
-            x: flags.x,
-            n: flags.n,
-            z: flags.z,
-            v: flags.v,
-            c: flags.c,
-        },
+        flags: Flags { ..flags },
     }
 }
 
@@ -125,7 +120,7 @@ pub(crate) fn begin(len: usize, start: usize, stop: usize, flags: Flags) -> Cour
 }
 
 // One step of a run that goes on. The next place is worked out before the step is taken, and is the same whatever comes of
-// it, so that the compiler has one place to keep.
+// it, so that the compiler has one place to keep. (One `stands`, over `&&`, tried as steps.rt says: 62.3)
 pub(crate) fn advance(
     d: &mut [u32; 8],
     a: &mut [u32; 8],
@@ -136,19 +131,15 @@ pub(crate) fn advance(
     requires { Ready stop on }
     ensures { Advanced stop on (perform_of (held d.old a.old on.flags) step) d.new a.new result }
 {
-    let before = on.flags;
-    let size = step.size;
-    let form = step.form;
     let next = on.next + 1;
-    let acted = perform_on(d, a, before, size, form);
-    let flags = acted.flags;
+    let acted = perform_on(d, a, on.flags, step.size, step.form);
     let came = acted.came;
-    let figure = acted.clocks as u64;
+    let figure = u64::from(acted.clocks);
     let clocks = on.clocks + figure;
-    if is_done(came) {
-        stands(next < stop, came, next, clocks, flags)
+    if came == Came::Done {
+        stands(next < stop, came, next, clocks, acted.flags)
     } else {
-        stands(false, came, next, clocks, flags)
+        stands(false, came, next, clocks, acted.flags)
     }
 }
 
@@ -156,8 +147,7 @@ pub(crate) fn advance(
 pub(crate) fn all_done(on: Course) -> bool
     ensures { result ≡ is_done (came_out on.came) }
 {
-    let came = on.came;
-    is_done(came)
+    on.came == Came::Done
 }
 
 // How a run ends, and where it would go on.
@@ -165,12 +155,6 @@ pub(crate) fn all_done(on: Course) -> bool
 struct Halted {
     end: End,
     next: usize,
-}
-
-fn halt(end: End, next: usize) -> Halted
-    ensures { result ≡ record { end = end; next = next } }
-{
-    Halted { end, next }
 }
 
 // At a place at which a run takes no step more.
@@ -188,7 +172,7 @@ fn end_at(len: usize, next: usize) -> End
 pub(crate) fn place_before(next: usize) -> usize
     ensures { result ≡ next - 1 }
 {
-    if 0 < next { next - 1 } else { 0 }
+    next.saturating_sub(1)
 }
 
 // Where a refused step stood, if `next` is the place behind it; a run that starts past the end has taken none.
@@ -196,9 +180,7 @@ fn stood_at(fault: Fault, next: usize) -> usize
     ensures { result ≡ stood_at fault next }
 {
     match fault {
-        Fault::BadSmall => place_before(next),
-        Fault::NoSuchSize => place_before(next),
-        Fault::NoSuchRegister => place_before(next),
+        Fault::BadSmall | Fault::NoSuchSize | Fault::NoSuchRegister => place_before(next),
         Fault::StartPastEnd => next,
     }
 }
@@ -209,11 +191,20 @@ fn halted_after(outcome: Outcome, len: usize, next: usize, line: u8) -> Halted
     ensures { result ≡ halted_of outcome len next line }
 {
     match outcome {
-        Outcome::Done => halt(end_at(len, next), next),
-        Outcome::Trapped(trap) => halt(End::Trapped(trap, place_before(next), line), next),
+        Outcome::Done => Halted {
+            end: end_at(len, next),
+            next,
+        },
+        Outcome::Trapped(trap) => Halted {
+            end: End::Trapped(trap, place_before(next), line),
+            next,
+        },
         Outcome::Refused(fault) => {
             let at = stood_at(fault, next);
-            halt(End::Refused(fault, at, line), at)
+            Halted {
+                end: End::Refused(fault, at, line),
+                next: at,
+            }
         }
     }
 }
@@ -223,18 +214,14 @@ pub(crate) fn left_off(len: usize, start: usize, on: Course, line: u8) -> Left
     requires { Halts len start on line }
     ensures { result ≡ left_of len start on line }
 {
-    let came = on.came;
-    let flags = on.flags;
-    let halt = halted_after(outcome_of(came), len, on.next, line);
-    let end = halt.end;
-    let taken = halt.next - start;
-    let steps = taken as u32;
+    let halted = halted_after(Outcome::from(on.came), len, on.next, line);
+    let taken = halted.next - start;
     Left {
-        end,
-        next: halt.next,
-        steps,
+        end: halted.end,
+        next: halted.next,
+        steps: taken as u32,
         clocks: on.clocks,
-        flags,
+        flags: on.flags,
     }
 }
 
@@ -242,11 +229,13 @@ pub(crate) fn left_off(len: usize, start: usize, on: Course, line: u8) -> Left
 pub(crate) fn ran_of(left: Left, d: [u32; 8], a: [u32; 8]) -> Ran
     ensures { result ≡ ran_in left d a }
 {
-    let end = left.end;
-    let flags = left.flags;
     Ran {
-        end,
-        state: State { d, a, flags },
+        end: left.end,
+        state: State {
+            d,
+            a,
+            flags: left.flags,
+        },
         next: left.next,
         steps: left.steps,
         clocks: left.clocks,
@@ -263,11 +252,10 @@ pub fn run_array(
 ) -> Ran
     ensures { result ≡ run_of perform_of (take count listing) state start budget }
 {
-    let len = lesser(count, SLOTS);
+    let len = count.min(SLOTS);
     let mut d = state.d;
     let mut a = state.a;
-    let flags = state.flags;
-    let left = run_first(listing, len, &mut d, &mut a, flags, start, budget);
+    let left = run_first(listing, len, &mut d, &mut a, state.flags, start, budget);
     ran_of(left, d, a)
 }
 
@@ -286,27 +274,13 @@ pub fn begun(state: State, place: usize) -> Ran
 
 // A run taken up again where it halted, with a budget of its own: steps and clocks add. It takes any `Ran`, so that a
 // sum may wrap; no run's does.
-pub fn resumed(listing: [Step; SLOTS], count: usize, ran: Ran, budget: u32) -> Ran
-    ensures { result ≡ resumed_of perform_of (take count listing) ran budget }
+pub fn resumed(listing: &[Step], ran: Ran, budget: u32) -> Ran
+    ensures { result ≡ resumed_of perform_of listing.now ran budget }
 {
-    let halted = ran.state;
-    let more = run_array(listing, count, halted, ran.next, budget);
-    let end = more.end;
-    let state = more.state;
-    let steps = std::num::wrapping_add_u32(ran.steps, more.steps);
-    let clocks = std::num::wrapping_add_u64(ran.clocks, more.clocks);
+    let more = run(listing, ran.state, ran.next, budget);
     Ran {
-        end,
-        state,
-        next: more.next,
-        steps,
-        clocks,
+        steps: ran.steps.wrapping_add(more.steps),
+        clocks: ran.clocks.wrapping_add(more.clocks),
+        ..more
     }
-}
-
-// The lesser of two numbers, as of a count and of the slots that there are.
-pub fn lesser(a: usize, b: usize) -> usize
-    ensures { result ≡ min a b }
-{
-    if a < b { a } else { b }
 }

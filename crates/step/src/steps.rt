@@ -1,6 +1,7 @@
 // One step: on registers that are lent, and by value. In a contract `within` and `figure` are the definitions of specs/,
-// not the functions.
-ghost use Rattle.std.specs.Prelude.{◌≡◌, ℕ, ◌&&◌, List, slice_set};
+// not the functions. Where a comment says "tried", it counts instructions a step of the loop of a run, as `tools/one-loop` does of
+// code that is not proved yet (60.4 as it stands), and what is more than 1 % slower is not taken.
+ghost use Rattle.std.specs.Prelude.{◌≡◌, ℕ, ◌<◌, ◌&&◌, List, slice_set};
 ghost use Rattle.alu.specs.Answers.{refigured, figure};
 ghost use Rattle.alu.specs.Shifts.{shift_of};
 ghost use Rattle.alu.specs.Bitops.{bitop_of};
@@ -8,11 +9,11 @@ ghost use Rattle.step.specs.declared.forms.Form.TheVariants as Form;
 ghost use Rattle.step.specs.declared.forms.Register.TheVariants as Register;
 ghost use Rattle.step.specs.declared.steps.Came.TheVariants as How;
 ghost use Rattle.step.specs.Registers.{merged_of};
-ghost use Rattle.step.specs.Perform.{number_of, class_of, register_there, count_there, within};
-ghost use Rattle.step.specs.Perform.{not_byte, is_word, is_long, on_address_of, quick_of, quick_address_of};
+ghost use Rattle.step.specs.Perform.{number_of, class_of, there, register_there, count_there, within};
+ghost use Rattle.step.specs.Perform.{on_address_of, quick_of, quick_address_of};
 ghost use Rattle.step.specs.Perform.{register_value, outcome_of, figure_of_bit, perform_form, perform_of};
 ghost use Rattle.step.specs.Lent.{held};
-ghost use Rattle.step.specs.Course.{came_out, is_done, leaving, said_of, refused_of, counted_of, count_fault, outcome_from};
+ghost use Rattle.step.specs.Course.{came_out, leaving, said_of, refused_of, counted_of, count_fault, outcome_from};
 
 use super::forms::{AddressOp, Count, Form, OneOp, QuickOp, Register, Step, TwoOp};
 use super::lent::run_one;
@@ -27,7 +28,7 @@ use alu::integer_arith::{
 use alu::shift_rotate::{
     ShiftOp, exec_asl, exec_asr, exec_lsl, exec_lsr, exec_rol, exec_ror, exec_roxl, exec_roxr,
 };
-use alu::types::{Answer, Check, Flags, Size, accepted, figure};
+use alu::types::{Answer, Check, Flags, Size};
 
 // Why a step, or a run, is refused: document 01's numbers 1, 2, 3 and 10.
 #[derive(Clone, Copy)]
@@ -61,8 +62,8 @@ pub struct Performed {
     pub clocks: u32,
 }
 
-// How a step comes out, in one byte: the two of an `Outcome` are packed into a number and taken apart at each step.
-#[derive(Clone, Copy)]
+// How a step comes out, in one byte: an `Outcome` in its place is packed into a number and taken apart at each step (tried: 63.8).
+#[derive(Clone, Copy, PartialEq, Eq)]
 pub(crate) enum Came {
     Done,
     Over,
@@ -74,13 +75,6 @@ pub(crate) enum Came {
     StartPastEnd,
 }
 
-// A shift's count or a bit's number: whether it may be, and its value.
-#[derive(Clone, Copy)]
-struct Counted {
-    fits: bool,
-    value: u32,
-}
-
 // What a step says beside the registers that it leaves.
 #[derive(Clone, Copy)]
 pub(crate) struct Acted {
@@ -90,62 +84,37 @@ pub(crate) struct Acted {
 }
 
 // Document 01's number of a refusal.
-pub fn number(fault: Fault) -> u32
-    ensures { result ≡ number_of fault }
-{
-    match fault {
-        Fault::BadSmall => 1,
-        Fault::NoSuchSize => 2,
-        Fault::NoSuchRegister => 3,
-        Fault::StartPastEnd => 10,
+impl From<Fault> for u32 {
+    ghost from_gives = { λ fault number. number ≡ number_of fault };
+
+    fn from(fault: Fault) -> u32 {
+        match fault {
+            Fault::BadSmall => 1,
+            Fault::NoSuchSize => 2,
+            Fault::NoSuchRegister => 3,
+            Fault::StartPastEnd => 10,
+        }
     }
 }
 
-// The number of a trap's class, as alu::types::class has it.
-pub fn class(trap: Trap) -> u32
-    ensures { result ≡ class_of trap }
-{
-    match trap {
-        Trap::Over => 1,
-        Trap::Short => 2,
-        Trap::Below => 3,
+// The number of a trap's class, as the crate alu numbers CHK's.
+impl From<Trap> for u32 {
+    ghost from_gives = { λ trap number. number ≡ class_of trap };
+
+    fn from(trap: Trap) -> u32 {
+        match trap {
+            Trap::Over => 1,
+            Trap::Short => 2,
+            Trap::Below => 3,
+        }
     }
 }
 
-fn both(a: bool, b: bool) -> bool
-    ensures { result ≡ a && b }
+// Of two data registers. (In place, where it is asked, tried: 61.3)
+fn are_there(s: D, t: D) -> bool
+    ensures { result ≡ there s.0 && there t.0 }
 {
-    if a { b } else { false }
-}
-
-fn is_word(size: Size) -> bool
-    ensures { result ≡ is_word size }
-{
-    match size {
-        Size::Byte => false,
-        Size::Word => true,
-        Size::Long => false,
-    }
-}
-
-fn is_long(size: Size) -> bool
-    ensures { result ≡ is_long size }
-{
-    match size {
-        Size::Byte => false,
-        Size::Word => false,
-        Size::Long => true,
-    }
-}
-
-fn not_byte(size: Size) -> bool
-    ensures { result ≡ not_byte size }
-{
-    match size {
-        Size::Byte => false,
-        Size::Word => true,
-        Size::Long => true,
-    }
+    s.0 < 8 && t.0 < 8
 }
 
 fn register_there(p: Register) -> bool
@@ -169,7 +138,7 @@ fn count_there(c: Count) -> bool
 fn within(least: u8, most: u8, k: u8) -> bool
     ensures { result ≡ within least most k }
 {
-    both(least <= k, k <= most)
+    least <= k && k <= most
 }
 
 fn on_address(op: AddressOp, size: Size, src: u32, dst: u32, flags: Flags) -> Answer
@@ -257,87 +226,59 @@ fn count_fault(c: Count) -> Came
     }
 }
 
-// A register as a shift's count is taken mod 64, as a bit's number mod 32.
-fn shift_count(d: &[u32; 8], c: Count) -> Counted
-    ensures { (a : List ℕ) (f : Flags) → result ≡ counted_of 1 8 64 (held d.now a f) c }
+// A shift's count or a bit's number, if it may be: a small number in range, or what a register that is there holds, mod `MODULUS`.
+fn counted<const LEAST: u8, const MOST: u8, const MODULUS: u32>(
+    d: &[u32; 8],
+    c: Count,
+) -> Option<u32>
+    requires { 0 < MODULUS }
+    ensures { (a : List ℕ) (f : Flags) → result ≡ counted_of LEAST MOST MODULUS (held d.now a f) c }
 {
     match c {
-        Count::Small(k) => Counted {
-            fits: within(1, 8, k),
-            value: k as u32,
-        },
-        Count::Data(r) => Counted {
-            fits: r.0 < 8,
-            value: read(d, r.0) % 64,
-        },
+        Count::Small(k) if within(LEAST, MOST, k) => Some(u32::from(k)),
+        Count::Data(r) if r.0 < 8 => Some(read(d, r.0) % MODULUS),
+        _ => None,
     }
 }
 
-fn bit_number(d: &[u32; 8], c: Count) -> Counted
-    ensures { (a : List ℕ) (f : Flags) → result ≡ counted_of 0 31 32 (held d.now a f) c }
-{
-    match c {
-        Count::Small(k) => Counted {
-            fits: within(0, 31, k),
-            value: k as u32,
-        },
-        Count::Data(r) => Counted {
-            fits: r.0 < 8,
-            value: read(d, r.0) % 32,
-        },
-    }
-}
+impl From<Check> for Came {
+    ghost from_gives = { λ check came. came_out came ≡ outcome_of check };
 
-fn came_of(check: Check) -> Came
-    ensures { came_out result ≡ outcome_of check }
-{
-    match check {
-        Check::Pass => Came::Done,
-        Check::Over => Came::Over,
-        Check::Short => Came::Short,
-        Check::Below => Came::Below,
+    fn from(check: Check) -> Came {
+        match check {
+            Check::Pass => Came::Done,
+            Check::Over => Came::Over,
+            Check::Short => Came::Short,
+            Check::Below => Came::Below,
+        }
     }
 }
 
 // The outcome that it stands for.
-pub(crate) fn outcome_of(came: Came) -> Outcome
-    ensures { result ≡ came_out came }
-{
-    match came {
-        Came::Done => Outcome::Done,
-        Came::Over => Outcome::Trapped(Trap::Over),
-        Came::Short => Outcome::Trapped(Trap::Short),
-        Came::Below => Outcome::Trapped(Trap::Below),
-        Came::BadSmall => Outcome::Refused(Fault::BadSmall),
-        Came::NoSuchSize => Outcome::Refused(Fault::NoSuchSize),
-        Came::NoSuchRegister => Outcome::Refused(Fault::NoSuchRegister),
-        Came::StartPastEnd => Outcome::Refused(Fault::StartPastEnd),
+impl From<Came> for Outcome {
+    ghost from_gives = { λ came outcome. outcome ≡ came_out came };
+
+    fn from(came: Came) -> Outcome {
+        match came {
+            Came::Done => Outcome::Done,
+            Came::Over => Outcome::Trapped(Trap::Over),
+            Came::Short => Outcome::Trapped(Trap::Short),
+            Came::Below => Outcome::Trapped(Trap::Below),
+            Came::BadSmall => Outcome::Refused(Fault::BadSmall),
+            Came::NoSuchSize => Outcome::Refused(Fault::NoSuchSize),
+            Came::NoSuchRegister => Outcome::Refused(Fault::NoSuchRegister),
+            Came::StartPastEnd => Outcome::Refused(Fault::StartPastEnd),
+        }
     }
 }
 
-pub(crate) fn is_done(came: Came) -> bool
-    ensures { result ≡ is_done (came_out came) }
-{
-    match came {
-        Came::Done => true,
-        Came::Over | Came::Short | Came::Below => false,
-        Came::BadSmall | Came::NoSuchSize | Came::NoSuchRegister | Came::StartPastEnd => false,
-    }
-}
-
-// What a step says once the operation has answered. The flags go over one by one, as in alu::types::accepted.
+// What a step says once the operation has answered. The flags go over one by one, here, in `refused` and in `stands` (moved whole, tried: 68.9).
 fn said(came: Came, answer: Answer) -> Acted
     ensures { result ≡ said_of came answer }
 {
     Acted {
         came,
-        flags: Flags {
-            x: answer.flags.x,
-            n: answer.flags.n,
-            z: answer.flags.z,
-            v: answer.flags.v,
-            c: answer.flags.c,
-        },
+        flags: Flags { ..answer.flags },
         clocks: answer.clocks,
     }
 }
@@ -348,13 +289,7 @@ fn refused(came: Came, flags: Flags) -> Acted
 {
     Acted {
         came,
-        flags: Flags {
-            x: flags.x,
-            n: flags.n,
-            z: flags.z,
-            v: flags.v,
-            c: flags.c,
-        },
+        flags: Flags { ..flags },
         clocks: 0,
     }
 }
@@ -371,9 +306,8 @@ fn to_data(d: &mut [u32; 8], size: Size, t: D, old: u32, answer: Answer) -> Acte
 fn to_data_timed(d: &mut [u32; 8], size: Size, t: D, old: u32, answer: Answer, long: u32) -> Acted
     ensures { (d.new ≡ slice_set d.old t.0 (merged_of size old answer.result)) × (result ≡ said_of How.Done (refigured answer (figure size answer.clocks long))) }
 {
-    let clocks = figure(size, answer.clocks, long);
-    let timed = accepted(answer.result, answer.flags, clocks);
-    to_data(d, size, t, old, timed)
+    let clocks = size.figure(answer.clocks, long);
+    to_data(d, size, t, old, Answer { clocks, ..answer })
 }
 
 // The result goes whole to a register.
@@ -384,11 +318,13 @@ fn to_whole(registers: &mut [u32; 8], t: u8, answer: Answer) -> Acted
     said(Came::Done, answer)
 }
 
+// Here and below the tests stand in `if`: with `?`, over a `Result` with the `Acted`, tried in eight ways: 60.9 to 68.6.
+
 // ADD, SUB, CMP, ADDX, SUBX Ds,Dt
 fn step_two(d: &mut [u32; 8], flags: Flags, size: Size, op: TwoOp, s: D, t: D) -> Acted
     ensures { (a : List ℕ) → leaving d.new a result ≡ perform_form (held d.old a flags) size (Form.Two op s t) }
 {
-    if both(s.0 < 8, t.0 < 8) {
+    if are_there(s, t) {
         let src = read(d, s.0);
         let dst = read(d, t.0);
         match op {
@@ -415,8 +351,8 @@ fn step_address(
 ) -> Acted
     ensures { leaving d.now a.new result ≡ perform_form (held d.now a.old flags) size (Form.Address op s t) }
 {
-    if both(register_there(s), t.0 < 8) {
-        if not_byte(size) {
+    if register_there(s) && t.0 < 8 {
+        if size != Size::Byte {
             let src = register_value(d, a, s);
             let dst = read(a, t.0);
             to_whole(a, t.0, on_address(op, size, src, dst, flags))
@@ -428,14 +364,14 @@ fn step_address(
     }
 }
 
-// ADDQ, SUBQ #k,Dt
+// ADDQ, SUBQ #k,Dt. (One function of this and the next, over a `Register`, tried: 63.3)
 fn step_quick(d: &mut [u32; 8], flags: Flags, size: Size, op: QuickOp, k: u8, t: D) -> Acted
     ensures { (a : List ℕ) → leaving d.new a result ≡ perform_form (held d.old a flags) size (Form.Quick op k (Register.Data t)) }
 {
     if t.0 < 8 {
         if within(1, 8, k) {
             let dst = read(d, t.0);
-            to_data(d, size, t, dst, quick(op, size, k as u32, dst, flags))
+            to_data(d, size, t, dst, quick(op, size, u32::from(k), dst, flags))
         } else {
             refused(Came::BadSmall, flags)
         }
@@ -449,10 +385,10 @@ fn step_quick_address(a: &mut [u32; 8], flags: Flags, size: Size, op: QuickOp, k
     ensures { (d : List ℕ) → leaving d a.new result ≡ perform_form (held d a.old flags) size (Form.Quick op k (Register.Address t)) }
 {
     if t.0 < 8 {
-        if not_byte(size) {
+        if size != Size::Byte {
             if within(1, 8, k) {
                 let dst = read(a, t.0);
-                to_whole(a, t.0, quick_address(op, size, k as u32, dst, flags))
+                to_whole(a, t.0, quick_address(op, size, u32::from(k), dst, flags))
             } else {
                 refused(Came::BadSmall, flags)
             }
@@ -475,7 +411,7 @@ fn step_one(d: &mut [u32; 8], flags: Flags, size: Size, op: OneOp, t: D) -> Acte
             OneOp::Neg => to_data(d, size, t, dst, exec_neg(size, dst, flags)),
             OneOp::Negx => to_data(d, size, t, dst, exec_negx(size, dst, flags)),
             OneOp::Not => to_data(d, size, t, dst, exec_not(size, dst, flags)),
-            OneOp::Ext => if not_byte(size) {
+            OneOp::Ext => if size != Size::Byte {
                 to_whole(d, t.0, exec_ext(size, dst, flags))
             } else {
                 refused(Came::NoSuchSize, flags)
@@ -491,10 +427,9 @@ fn step_shift(d: &mut [u32; 8], flags: Flags, size: Size, op: ShiftOp, c: Count,
     ensures { (a : List ℕ) → leaving d.new a result ≡ perform_form (held d.old a flags) size (Form.Shift op c t) }
 {
     if t.0 < 8 {
-        let count = shift_count(d, c);
-        if count.fits {
+        if let Some(count) = counted::<1, 8, 64>(d, c) {
             let dst = read(d, t.0);
-            to_data(d, size, t, dst, shift(op, size, count.value, dst, flags))
+            to_data(d, size, t, dst, shift(op, size, count, dst, flags))
         } else {
             refused(count_fault(c), flags)
         }
@@ -509,14 +444,12 @@ fn step_bit(d: &mut [u32; 8], flags: Flags, size: Size, op: BitOp, c: Count, t: 
     ensures { (a : List ℕ) → leaving d.new a result ≡ perform_form (held d.old a flags) size (Form.Bit op c t) }
 {
     if t.0 < 8 {
-        if is_long(size) {
-            let number = bit_number(d, c);
-            if number.fits {
+        if size == Size::Long {
+            if let Some(number) = counted::<0, 31, 32>(d, c) {
                 let dst = read(d, t.0);
-                let answer = bit(op, size, number.value, dst, flags);
-                let clocks = figure_of_bit(op, number.value, answer.clocks);
-                let timed = accepted(answer.result, answer.flags, clocks);
-                to_data(d, size, t, dst, timed)
+                let answer = bit(op, size, number, dst, flags);
+                let clocks = figure_of_bit(op, number, answer.clocks);
+                to_data(d, size, t, dst, Answer { clocks, ..answer })
             } else {
                 refused(count_fault(c), flags)
             }
@@ -534,14 +467,12 @@ fn step_bit(d: &mut [u32; 8], flags: Flags, size: Size, op: BitOp, c: Count, t: 
 fn step_chk(d: &[u32; 8], flags: Flags, size: Size, s: D, t: D) -> Acted
     ensures { (a : List ℕ) → leaving d.now a result ≡ perform_form (held d.now a flags) size (Form.Chk s t) }
 {
-    if both(s.0 < 8, t.0 < 8) {
-        if is_word(size) {
+    if are_there(s, t) {
+        if size == Size::Word {
             let bound = read(d, s.0);
             let value = read(d, t.0);
             let chk = exec_chk(size, bound, value, flags);
-            let check = chk.check;
-            let answer = chk.answer;
-            said(came_of(check), answer)
+            said(Came::from(chk.check), chk.answer)
         } else {
             refused(Came::NoSuchSize, flags)
         }
@@ -574,7 +505,7 @@ pub(crate) fn perform_on(
     }
 }
 
-// The outcome of a run of one step.
+// The outcome of a run of one step. No `From`: of a longer run it is not the outcome.
 fn outcome_from(end: End) -> Outcome
     ensures { result ≡ outcome_from end }
 {
@@ -592,15 +523,14 @@ pub fn perform(state: State, step: Step) -> Performed
 {
     let mut d = state.d;
     let mut a = state.a;
-    let before = state.flags;
-    let left = run_one(step, &mut d, &mut a, before);
-    let end = left.end;
-    let flags = left.flags;
-    let outcome = outcome_from(end);
-    let clocks = left.clocks % 0x1_0000_0000;
+    let left = run_one(step, &mut d, &mut a, state.flags);
     Performed {
-        outcome,
-        state: State { d, a, flags },
-        clocks: clocks as u32,
+        outcome: outcome_from(left.end),
+        state: State {
+            d,
+            a,
+            flags: left.flags,
+        },
+        clocks: (left.clocks % 0x1_0000_0000) as u32,
     }
 }

@@ -5,7 +5,7 @@
 --     same_exit        so two answers that satisfy the contract are equal, and what they leave behind every such reference
 --     .. -determined   so each of them, by the contract that stands in its code. tools/contracts looks that none is left out
 -- Assumes nothing.
-use Rattle.std.proofs.Common.{◌≡◌, ℕ, [], ◌∷◌, length, sym, refl, ap, ◌∙◌}
+use Rattle.std.proofs.Common.{◌≡◌, [], ◌∷◌, length, sym, refl, ap, ◌∙◌}
 use seplogic.Ra.Ura.{Ura}
 use base.Logic.{SProp}
 use prog.Memory.{Memory}
@@ -16,7 +16,8 @@ use contract.Lifetimes.{Lfts}
 use denote.Triple.Entry.{Args, Res}
 use denote.Triple.Clauses.{Ended, Lasts, AtExit, at_exit}
 use Rattle.text.specs.Text.{before, byte_digit, hex_digit, digit_of, worth_of, decimal_of, decimal_read, hex_of, hex_read}
-use Rattle.text.specs.Wrote.{Written, written, writing}
+use Rattle.text.specs.declared.writers.Writer.{Writer}
+use Rattle.text.specs.Wrote.{wrote}
 use Rattle.text.specs.contracts.parts.first as first
 use Rattle.text.specs.contracts.numbers.digit as digit
 use Rattle.text.specs.contracts.numbers.hex_digit as hex-digit
@@ -25,11 +26,11 @@ use Rattle.text.specs.contracts.numbers.worth as worth
 use Rattle.text.specs.contracts.numbers.decimal_of as decimal-of
 use Rattle.text.specs.contracts.numbers.hex as hex
 use Rattle.text.specs.contracts.numbers.hex_of as hex-of
-use Rattle.text.specs.contracts.writers.put_byte as put_byte
-use Rattle.text.specs.contracts.writers.put_bytes as put-bytes
-use Rattle.text.specs.contracts.writers.put_decimal as put-decimal
-use Rattle.text.specs.contracts.writers.put_number as put-number
-use Rattle.text.specs.contracts.writers.put_hex as put-hex
+use Rattle.text.specs.contracts.writers.Writer.byte as byte
+use Rattle.text.specs.contracts.writers.Writer.bytes as bytes
+use Rattle.text.specs.contracts.writers.Writer.decimal as decimal
+use Rattle.text.specs.contracts.writers.Writer.number as number
+use Rattle.text.specs.contracts.writers.Writer.hex as write-hex
 
 -- `whole r ws`: of the result r and of the last values ws behind all references that the function may write through
 module _ {M : Type 1} (𝓤 : Ura M) (T : Ended) (κs : Lfts T.signature.lifetimes) (a : Args T.signature κs) {Whole : Type 0}
@@ -43,9 +44,6 @@ module _ {M : Type 1} (𝓤 : Ura M) (T : Ended) (κs : Lfts T.signature.lifetim
     pub same_exit : {says : Res T.signature κs → AtExit T κs → SProp 𝓤} (o : OneExit says) (r r' : Res T.signature κs) (ws ws' : Lasts T κs a)
         → whole r ws ≡ o.of → whole r' ws' ≡ o.of → (r ≡ r') × (ws ≡ ws')
     same_exit o r r' ws ws' p q = o.all r r' ws ws' (p ∙ sym q)
-
-abbrev next_in : Written → ℕ
-next_in w = w.next
 
 module _ {M : Type 1} {𝓤 : Ura M} (𝓛 : Logic 𝓤) (mem : Memory → SProp 𝓤) (go : Routine → Fun 𝓤) where
   pub first_determined : (κs : Lfts 1) (a : Args first.signature κs) → OneExit 𝓤 first.ended κs a (λ r ws. r) ((first.clauses 𝓛 mem go κs a).ensures tt)
@@ -72,37 +70,17 @@ module _ {M : Type 1} {𝓤 : Ura M} (𝓛 : Logic 𝓤) (mem : Memory → SProp
   pub hex_of_determined : (κs : Lfts 1) (a : Args hex-of.signature κs) → OneExit 𝓤 hex-of.ended κs a (λ r ws. r) ((hex-of.clauses 𝓛 mem go κs a).ensures tt)
   hex_of_determined κs a = record { of = hex_read a.0.now; is = λ r ws. refl; all = λ r r' ws ws' e. (e, refl) }
 
-  pub put_byte_determined : (κs : Lfts 1) (a : Args put_byte.signature κs) → OneExit 𝓤 put_byte.ended κs a (λ r ws. written ws.0 r) ((put_byte.clauses 𝓛 mem go κs a).ensures tt)
-  put_byte_determined κs a = record {
-    of = writing a.0.now a.1.0 (a.1.1.0 ∷ []);
-    is = λ r ws. refl;
-    all = λ r r' ws ws' e. (ap next_in e, ap (λ (w : Written). (w.bytes, (tt, (tt, tt)))) e);
-  }
+  pub byte_determined : (κs : Lfts 2) (a : Args byte.signature κs) → OneExit 𝓤 byte.ended κs a (λ r ws. ws.0) ((byte.clauses 𝓛 mem go κs a).ensures tt)
+  byte_determined κs a = record { of = wrote a.0.now (a.1.0 ∷ []); is = λ r ws. refl; all = λ r r' ws ws' e. (refl, ap (λ (w : Writer). (w, (tt, tt))) e) }
 
-  pub put_bytes_determined : (κs : Lfts 2) (a : Args put-bytes.signature κs) → OneExit 𝓤 put-bytes.ended κs a (λ r ws. written ws.0 r) ((put-bytes.clauses 𝓛 mem go κs a).ensures tt)
-  put_bytes_determined κs a = record {
-    of = writing a.0.now a.1.0 a.1.1.0.now;
-    is = λ r ws. refl;
-    all = λ r r' ws ws' e. (ap next_in e, ap (λ (w : Written). (w.bytes, (tt, (tt, tt)))) e);
-  }
+  pub bytes_determined : (κs : Lfts 3) (a : Args bytes.signature κs) → OneExit 𝓤 bytes.ended κs a (λ r ws. ws.0) ((bytes.clauses 𝓛 mem go κs a).ensures tt)
+  bytes_determined κs a = record { of = wrote a.0.now a.1.0.now; is = λ r ws. refl; all = λ r r' ws ws' e. (refl, ap (λ (w : Writer). (w, (tt, tt))) e) }
 
-  pub put_decimal_determined : (κs : Lfts 1) (a : Args put-decimal.signature κs) → OneExit 𝓤 put-decimal.ended κs a (λ r ws. written ws.0 r) ((put-decimal.clauses 𝓛 mem go κs a).ensures tt)
-  put_decimal_determined κs a = record {
-    of = writing a.0.now a.1.0 (decimal_of a.1.1.0);
-    is = λ r ws. refl;
-    all = λ r r' ws ws' e. (ap next_in e, ap (λ (w : Written). (w.bytes, (tt, (tt, tt)))) e);
-  }
+  pub decimal_determined : (κs : Lfts 2) (a : Args decimal.signature κs) → OneExit 𝓤 decimal.ended κs a (λ r ws. ws.0) ((decimal.clauses 𝓛 mem go κs a).ensures tt)
+  decimal_determined κs a = record { of = wrote a.0.now (decimal_of a.1.0); is = λ r ws. refl; all = λ r r' ws ws' e. (refl, ap (λ (w : Writer). (w, (tt, tt))) e) }
 
-  pub put_number_determined : (κs : Lfts 1) (a : Args put-number.signature κs) → OneExit 𝓤 put-number.ended κs a (λ r ws. written ws.0 r) ((put-number.clauses 𝓛 mem go κs a).ensures tt)
-  put_number_determined κs a = record {
-    of = writing a.0.now a.1.0 (a.1.1.0 ∷ decimal_of a.1.1.1.0);
-    is = λ r ws. refl;
-    all = λ r r' ws ws' e. (ap next_in e, ap (λ (w : Written). (w.bytes, (tt, (tt, (tt, tt))))) e);
-  }
+  pub number_determined : (κs : Lfts 2) (a : Args number.signature κs) → OneExit 𝓤 number.ended κs a (λ r ws. ws.0) ((number.clauses 𝓛 mem go κs a).ensures tt)
+  number_determined κs a = record { of = wrote a.0.now (a.1.0 ∷ decimal_of a.1.1.0); is = λ r ws. refl; all = λ r r' ws ws' e. (refl, ap (λ (w : Writer). (w, (tt, (tt, tt)))) e) }
 
-  pub put_hex_determined : (κs : Lfts 1) (a : Args put-hex.signature κs) → OneExit 𝓤 put-hex.ended κs a (λ r ws. written ws.0 r) ((put-hex.clauses 𝓛 mem go κs a).ensures tt)
-  put_hex_determined κs a = record {
-    of = writing a.0.now a.1.0 (hex_of a.1.1.0);
-    is = λ r ws. refl;
-    all = λ r r' ws ws' e. (ap next_in e, ap (λ (w : Written). (w.bytes, (tt, (tt, tt)))) e);
-  }
+  pub write_hex_determined : (κs : Lfts 2) (a : Args write-hex.signature κs) → OneExit 𝓤 write-hex.ended κs a (λ r ws. ws.0) ((write-hex.clauses 𝓛 mem go κs a).ensures tt)
+  write_hex_determined κs a = record { of = wrote a.0.now (hex_of a.1.0); is = λ r ws. refl; all = λ r r' ws ws' e. (refl, ap (λ (w : Writer). (w, (tt, tt))) e) }

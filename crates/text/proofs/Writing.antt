@@ -9,7 +9,8 @@ use Rattle.std.proofs.Common.{◌≡◌, ℕ, suc, ◌+◌, ◌-◌, ◌<◌, �
 use native.Mathlib.Decide.{dec_le}
 use lib.Seq.{sets, length-sets, set_out, take-nil, set-append_seam, append_snoc}
 use Rattle.io.specs.Counts.{IsPrefixLen}
-use Rattle.text.specs.Wrote.{Written, written, writing, Wrote}
+use Rattle.text.specs.declared.writers.Writer.{Writer}
+use Rattle.text.specs.Wrote.{Written, written, writing, Wrote, wrote}
 
 -- past the end nothing is stored
 sets_out : (l : List ℕ) (i : ℕ) (vs : List ℕ) → length l ≤ i → sets l i vs ≡ l
@@ -106,3 +107,22 @@ pub wrote_whole : (o s : List ℕ) {p : List ℕ} {r : ℕ} → Wrote o 0 s p r 
 wrote_whole o s {p} {r} v h =
     let bytes : p ≡ take (length o) s ++ drop (length s) o = wrote_bytes o 0 s v ∙ sets_behind [] o s in
     rw (bytes, take_all (length o) s h) (take_at s (drop (length s) o) r (sym (wrote_all o s v h)))
+
+-- ---- writers
+
+-- by what its slice and its place are left as
+pub holds : (w : Writer) (s : List ℕ) {p : List ℕ} {r : ℕ} → Wrote w.out.now w.at s p r → record w { out = record w.out { now = p }; at = r } ≡ wrote w s
+holds w s l = ap (λ (left : Written). record w { out = record w.out { now = left.bytes }; at = left.next }) l
+
+pub writes_none : (w : Writer) → w ≡ wrote w []
+writes_none w = holds w [] (wrote_none w.out.now w.at)
+
+-- one text, and another behind it
+pub next : (w v u : Writer) (s t : List ℕ) → v ≡ wrote w s → u ≡ wrote v t → u ≡ wrote w (s ++ t)
+next w v u s t e f = f ∙ (ap (λ (v : Writer). wrote v t) e ∙ holds w (s ++ t) (then w.out.now w.at s t refl refl))
+
+-- what a slice is left as once its writer, which still had it, is gone
+pub ends : (w u : Writer) (s : List ℕ) {out : List ℕ} → u ≡ wrote w s → (w.out.ghost_name ≡ u.out.ghost_name → out ≡ u.out.now)
+    → Wrote w.out.now w.at s out u.at
+ends w u s e back =
+    ap (λ (l : List ℕ). written l u.at) (back (sym (ap (λ (v : Writer). v.out.ghost_name) e))) ∙ ap (λ (v : Writer). written v.out.now v.at) e

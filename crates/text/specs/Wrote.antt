@@ -1,4 +1,5 @@
 -- What it is to write a text into a lent slice. Assumes nothing.
+use Rattle.text.specs.declared.writers.Writer.{Writer}
 use Rattle.std.specs.Prelude.{◌≡◌, ℕ, ◌+◌, ◌-◌, min, max, List, ◌++◌, length, take, drop}
 
 -- what a writer leaves: the slice that it was lent, and the next place to write at
@@ -18,3 +19,9 @@ writing old at text =
 -- so for the contracts of writers: `out` and `r` are what writing gives
 abbrev pub Wrote : (old : List ℕ) (at : ℕ) (text out : List ℕ) (r : ℕ) → Type 0
 Wrote old at text out r = written out r ≡ writing old at text
+
+-- ---- a writer, which has a slice lent to it, and the next place
+
+-- what it is once it wrote a text: it has the same slice, which is left as writing leaves it, with the next place
+abbrev pub wrote : Writer → (text : List ℕ) → Writer
+wrote w text = record w { out = record w.out { now = (writing w.out.now w.at text).bytes }; at = (writing w.out.now w.at text).next }

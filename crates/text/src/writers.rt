@@ -1,52 +1,56 @@
-// Writing into a lent slice. Each writer takes the place to write at and answers the next one; what has no room is left
-// off.
+// Writing into a lent slice. A writer goes on from where it stands; what has no room is left off.
 ghost use Rattle.std.specs.Prelude.{◌≡◌, [], ◌∷◌};
 ghost use Rattle.text.specs.Text.{decimal_of, hex_of};
-ghost use Rattle.text.specs.Wrote.{written, writing};
+ghost use Rattle.text.specs.Wrote.{wrote};
 
 use super::numbers::hex;
 
-pub fn put_byte(out: &mut [u8], at: usize, b: u8) -> usize
-    ensures { written out.new result ≡ writing out.old at (b ∷ []) }
-{
-    if at < out.len() {
-        out[at] = b;
-        at + 1
-    } else {
-        at
+// A slice, and the next place to write at.
+#[derive(Drop)]
+pub struct Writer<'a> {
+    pub out: &'a mut [u8],
+    pub at: usize,
+}
+
+impl<'a> Writer<'a> {
+    pub fn byte(&mut self, b: u8)
+        ensures { self.new ≡ wrote self.old (b ∷ []) }
+    {
+        if self.at < self.out.len() {
+            self.out[self.at] = b;
+            self.at += 1;
+        }
     }
-}
 
-pub fn put_bytes(out: &mut [u8], at: usize, text: &[u8]) -> usize
-    ensures { written out.new result ≡ writing out.old at text.now }
-{
-    let end = at.saturating_add(text.len()).min(out.len());
-    if end < at {
-        return at;
+    pub fn bytes(&mut self, text: &[u8])
+        ensures { self.new ≡ wrote self.old text.now }
+    {
+        let end = self.at.saturating_add(text.len()).min(self.out.len());
+        if self.at <= end {
+            self.out[self.at..end].copy_from_slice(&text[..end - self.at]);
+            self.at = end;
+        }
     }
-    out[at..end].copy_from_slice(&text[..end - at]);
-    end
-}
 
-pub fn put_decimal(out: &mut [u8], at: usize, n: u64) -> usize
-    ensures { written out.new result ≡ writing out.old at (decimal_of n) }
-{
-    let mut digits = [0u8; 20];
-    let k = io::decimal(n, &mut digits);
-    put_bytes(out, at, &digits[..k])
-}
+    pub fn decimal(&mut self, n: u64)
+        ensures { self.new ≡ wrote self.old (decimal_of n) }
+    {
+        let mut digits = [0u8; 20];
+        let k = io::decimal(n, &mut digits);
+        self.bytes(&digits[..k]);
+    }
 
-// A byte and a number behind it: a field after a tab, a register after its letter, a small number after `#`.
-pub fn put_number(out: &mut [u8], at: usize, mark: u8, n: u64) -> usize
-    ensures { written out.new result ≡ writing out.old at (mark ∷ decimal_of n) }
-{
-    let next = put_byte(out, at, mark);
-    put_decimal(out, next, n)
-}
+    // A byte and a number behind it: a field after a tab, a register after its letter, a small number after `#`.
+    pub fn number(&mut self, mark: u8, n: u64)
+        ensures { self.new ≡ wrote self.old (mark ∷ decimal_of n) }
+    {
+        self.byte(mark);
+        self.decimal(n);
+    }
 
-pub fn put_hex(out: &mut [u8], at: usize, value: u32) -> usize
-    ensures { written out.new result ≡ writing out.old at (hex_of value) }
-{
-    let digits = hex(value);
-    put_bytes(out, at, &digits)
+    pub fn hex(&mut self, value: u32)
+        ensures { self.new ≡ wrote self.old (hex_of value) }
+    {
+        self.bytes(&hex(value));
+    }
 }

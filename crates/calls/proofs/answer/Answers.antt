@@ -10,6 +10,6 @@ pub returns-in_default : goal.returns-in_default
 unfolding operations
 returns-in_default c =
     let a = c.args in
-    let f = c.flags_of-in_default.result in
+    let f = c.from-in_default.result in
     let none = (missed {T = Unit {0}} operations a.op a.size a.src a.dst f assumption).1 in
-    answered a.op a.op a.size a.src a.dst refl c.flags_of-in_default.ensures (ap plain c.refused.ensures ∙ sym none) c.pack-in_default.ensures.0
+    answered a.op a.op a.size a.src a.dst refl c.from-in_default.ensures (ap plain c.refused.ensures ∙ sym none) c.pack-in_default.ensures.0

@@ -3,4 +3,4 @@ use Rattle.alu.proofs.ConditionTable.{table_holds}
 use Rattle.alu.proofs.conditions.holds.Goals as goal
 
 pub returns : goal.returns
-returns c = rw (c.number-i.ensures, c.ccr-setting.ensures) (table_holds c.args.condition c.args.flags)
+returns c = rw (c.from.ensures, c.from-number.ensures, c.from-setting.ensures) (table_holds c.args.condition c.args.flags)

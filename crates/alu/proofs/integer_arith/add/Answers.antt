@@ -15,7 +15,7 @@ unfolding sum
 returns c =
     let a = c.args in
     let n = bits_of a.size in
-    let w-is = c.width_of-w.ensures in
+    let w-is = c.width-w.ensures in
     let whole = low n a.dst + low n a.src + digit a.x in
-    (rw (w-is, and_mask a.src n, and_mask a.dst n, c.digit.ensures, low_mask n whole (bits_le a.size)) at (c.sum_of.ensures n w-is)) (low_lt n whole) ∙
+    (rw (w-is, and_mask a.src n, and_mask a.dst n, c.from.ensures, low_mask n whole (bits_le a.size)) at (c.sum_of.ensures n w-is)) (low_lt n whole) ∙
     add_worked n (bits_pos a.size) a.src a.dst a.x

@@ -14,5 +14,5 @@ returns c =
     let a = c.args in
     let n = bits_of a.size in
     let r = difference n a.dst 0 false in
-    (rw (c.figure.ensures, c.subtract-sum.ensures) at c.accepted.ensures) ∙
+    (rw (c.figure.ensures, c.subtract.ensures) at c.answer.ensures) ∙
     ap (λ (f : Flags). accepted r f (figure a.size 4 6)) (neg_flags_lem n a.dst r)

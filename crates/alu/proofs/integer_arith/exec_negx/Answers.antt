@@ -14,5 +14,5 @@ returns c =
     let a = c.args in
     let n = bits_of a.size in
     let r = difference n a.dst 0 a.flags.x in
-    (rw (c.figure.ensures, c.keep_z-new.ensures, c.subtract-sum.ensures) at c.accepted.ensures) ∙
+    (rw (c.figure.ensures, c.keep_z.ensures, c.subtract.ensures) at c.answer.ensures) ∙
     ap (λ (f : Flags). accepted r (keep_z a.flags f) (figure a.size 4 6)) (neg_flags_lem n a.dst r)

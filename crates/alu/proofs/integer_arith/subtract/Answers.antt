@@ -14,7 +14,7 @@ pub returns : goal.returns
 returns c =
     let a = c.args in
     let n = bits_of a.size in
-    let w-is = c.width_of-w.ensures in
+    let w-is = c.width-w.ensures in
     let whole = 2 ^ 32 + low n a.dst - (low n a.src + digit a.x) in
-    (rw (w-is, and_mask a.src n, and_mask a.dst n, c.digit.ensures, low_mask n whole (bits_le a.size), difference_masked a.size a.src a.dst a.x) at (c.sum_of.ensures n w-is)) (difference_lt n a.src a.dst a.x) ∙
+    (rw (w-is, and_mask a.src n, and_mask a.dst n, c.from.ensures, low_mask n whole (bits_le a.size), difference_masked a.size a.src a.dst a.x) at (c.sum_of.ensures n w-is)) (difference_lt n a.src a.dst a.x) ∙
     sub_worked n (bits_pos a.size) a.src a.dst a.x

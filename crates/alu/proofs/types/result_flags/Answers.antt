@@ -13,6 +13,6 @@ pub returns : goal.returns
 returns c =
     let a = c.args in
     let n = bits_of a.size in
-    let w-is = c.width_of-w.ensures in
+    let w-is = c.width-w.ensures in
     c.width_flags.ensures n w-is (rw w-is (mask_lt a.res n)) ∙
     rw (w-is, and_mask a.res n, top_low n a.res (bits_pos a.size), mod-mod a.res (2 ^ n))

@@ -1,19 +1,21 @@
 -- `recipes::printer::print` meets its contract: its writers, one behind the other. Assumes nothing.
-use mathlib.Core.List.{append_assoc}
-use mathlib.Core.Path.{◌≡◌, sym, ap, ◌∙◌}
-use Prim.Native.Nat.{min}
-use lib.ListN.{length, length-take}
-use Rattle.recipes.specs.Printer.{listing_text}
-use Rattle.text.proofs.Writing.{then}
-use Rattle.recipes.proofs.Steps.{mapped}
+use Rattle.std.proofs.Common.{◌≡◌, take, append_assoc, rules}
+use Rattle.text.proofs.Writing.{next, ends}
 use Rattle.step.specs.Run.{array_slots}
+use Rattle.recipes.specs.Printer.{listing_text}
+use Rattle.std.proofs.lemmas.List.{take_min}
 use Rattle.recipes.proofs.printer.print.Goals as goal
 
 pub returns : goal.returns
 unfolding listing_text
 returns c =
-    let a = c.args in
-    let long : length a.steps ≡ array_slots = search mapped in
-    let end = then _ _ _ _ c.put_byte-next.ensures (then _ _ _ _ c.put_steps-next.ensures (then _ _ _ _ c.put_bytes-next.ensures (then _ _ _ _ c.put_number-next.ensures c.put_byte.ensures))) in
-    rw (← c.clocks-sum.ensures, sym (c.lesser-many.ensures ∙ ap (min a.count) (sym long) ∙ sym (length-take a.count a.steps)))
-    (simp append_assoc at (then _ _ _ _ c.put_head-next.ensures end))
+    let shown : take c.min.result c.args.steps.now ≡ take array_slots c.args.steps.now = rw c.min.ensures (take_min array_slots c.args.steps.now) in
+    ends _ _ _
+    (rw (c.from.ensures, c.clocks.ensures, shown) at
+        (simp append_assoc at
+            (next _ _ _ _ _ c.put_head.ensures
+            (next _ _ _ _ _ c.byte.ensures
+            (next _ _ _ _ _ c.put_steps.ensures
+            (next _ _ _ _ _ c.bytes.ensures
+            (next _ _ _ _ _ c.number.ensures c.byte-2.ensures)))))))
+    (search rules)

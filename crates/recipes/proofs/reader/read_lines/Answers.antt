@@ -1,11 +1,12 @@
 -- `recipes::reader::read_lines` meets its contract: a turn of the loop reads one line, by `proofs/LineByLine.antt`.
 -- Assumes nothing.
-use Prim.Native.Nat.{ℕ, ◌+◌, ◌<◌}
+use Prim.Native.Nat.{ℕ, ◌+◌, ◌<◌, ◌≤◌}
 use mathlib.Core.Path.{◌≡◌, sym, ap, ◌∙◌}
 use mathlib.Core.List.{List, [], ◌∷◌, ◌++◌}
 use native.Mathlib.Omega.{arith}
 use lib.ListN.{length, length-append}
 use borrow.Author.Rules.{rules}
+use Rattle.std.proofs.lemmas.Bool.Decides.{nat_tests}
 use Rattle.recipes.specs.declared.types.Line.{Line}
 use Rattle.recipes.specs.Reader.{or_slip, lines_of}
 use Rattle.text.specs.Text.{before, after}
@@ -39,37 +40,40 @@ turn c =
 pub returns-then-count-eq-LINES_MAX : goal.returns-then-count-eq-LINES_MAX
 returns-then-count-eq-LINES_MAX c =
     let s = c.loop-left.invariant in
+    let left : 0 < length c.loop-left.left.now = search (rules, nat_tests) in
     let e : length s.ls ≡ lines_max = sym s.many ∙ c.if-count-eq-LINES_MAX.true in
-    rw (s.rest, lines_many _ _ _ c.loop-left-test.true e, ← s.many) c.refused_at.ensures
+    rw (s.rest, lines_many _ _ _ left e, ← s.many, c.at_line.ensures)
 
-pub overflow_add-column : goal.overflow_add-column
-overflow_add-column c = let within = (first_by c.first-end.ensures).within in search rules
+pub overflow_add-end : goal.overflow_add-end
+overflow_add-end c = let within = (first_by c.first-end.ensures).within in search rules
 
 pub returns-then-left-end : goal.returns-then-left-end
 returns-then-left-end c =
     let s = c.loop-left.invariant in
+    let left : 0 < length c.loop-left.left.now = search (rules, nat_tests) in
     let h = c.if-left-end.true in
     let whole = (first_by c.first-end.ensures).whole h in
     let e : c.first-end.result ≡ length c.loop-left.left.now = c.first-end.ensures ∙ ap length whole in
-    rw (s.rest, (first_by c.first-end.ensures).none h, whole, lines_cut _ _ _ c.loop-left-test.true (room c.loop-left.invariant c.if-count-eq-LINES_MAX.false), ← s.many, past_first, ← e) c.refused_at-then-left-end.ensures
+    rw (s.rest, (first_by c.first-end.ensures).none h, whole, lines_cut _ _ _ left (room c.loop-left.invariant c.if-count-eq-LINES_MAX.false), ← s.many, past_first, ← e, c.at_column.ensures)
 
-pub returns-in-Slip : goal.returns-in-Slip
-returns-in-Slip c = rw (turn (goal.at.returns-in-Slip c).After-read_line, c.in-Slip.is) c.refused_at-in-Slip.ensures
+pub returns-in-Err : goal.returns-in-Err
+returns-in-Err c = rw (turn (goal.at.returns-in-Err c).After-read_line, c.in-Err.is, c.at_column-in-Err.ensures)
 
 pub loop-left-preserved : goal.loop-left-preserved
 loop-left-preserved c =
     let s = c.loop-left.invariant in
-    let l = c.in-Read.line in
+    let l = c.in-Ok.line in
     record {
       ls = s.ls ++ (l ∷ []);
       many = rw length-append (omega arith);
       within = search rules;
       short = search rules;
       stored = rw (s.stored, s.many) (padded_more s.ls l (room c.loop-left.invariant c.if-count-eq-LINES_MAX.false));
-      rest = rw (turn (goal.at.loop-left-preserved c).After-read_line, c.in-Read.is);
+      rest = rw (turn (goal.at.loop-left-preserved c).After-read_line, c.in-Ok.is);
     }
 
 pub returns : goal.returns
 returns c =
     let s = c.loop-left.invariant in
-    rw (s.rest, lines_done _ _ _ c.loop-left-test.false) (rw (s.many, s.stored) at (rw c.no_refusal.ensures at c.reading.ensures))
+    let none : length c.loop-left.left.now ≤ 0 = search (rules, nat_tests) in
+    rw (s.rest, lines_done _ _ _ none, s.many, s.stored)

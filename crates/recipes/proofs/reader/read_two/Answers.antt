@@ -1,13 +1,13 @@
 -- `recipes::reader::read_two` meets its contract: the first tab parts two fields, and a second one tells a third.
 -- Assumes nothing.
 use Prim.Native.Nat.{◌+◌}
-use mathlib.Core.Path.{◌≡◌}
+use mathlib.Core.Path.{◌≡◌, sym, ◌∙◌}
 use lib.ListN.{take}
 use borrow.Author.Rules.{rules}
 use Rattle.text.specs.Text.{parts, digit_of}
-use Rattle.text.proofs.Texts.{from}
+use Rattle.text.proofs.Texts.{from, first_by}
 use Rattle.recipes.specs.Reader.{two_fields, with_two}
-use Rattle.text.proofs.Texts.{first_by}
+use Rattle.recipes.proofs.Digits.{handed_on, some_digit, no_digit}
 use Rattle.recipes.proofs.reader.read_two.Goals as goal
 use Rattle.recipes.proofs.reader.read_two.Goals.{Else-end-second}
 
@@ -25,17 +25,28 @@ pub overflow_add-behind : goal.overflow_add-behind
 overflow_add-behind c = let within = (first_by c.first-tab.ensures).within in search rules
 
 pub returns-then-fields-tab : goal.returns-then-fields-tab
-returns-then-fields-tab c = let f = c.first-tab.ensures in rw ((first_by f).none c.if-fields-tab.true, ← f)
+returns-then-fields-tab c = let f = c.first-tab.ensures in rw ((first_by f).none c.if-fields-tab.true, ← f, c.at.ensures)
 
 pub returns-then-end-second : goal.returns-then-end-second
 returns-then-end-second c =
-    rw ((first_by c.first-tab.ensures).some c.if-fields-tab.false, (first_by c.first-end.ensures).some c.if-end-second.true, ← c.first-tab.ensures, ← c.first-end.ensures)
+    rw ((first_by c.first-tab.ensures).some c.if-fields-tab.false, (first_by c.first-end.ensures).some c.if-end-second.true, ← c.first-tab.ensures, ← c.first-end.ensures, c.at-then-end-second.ensures)
 
-pub returns-in_default : goal.returns-in_default
-returns-in_default c = rw (two (goal.at.returns-in_default c).Else-end-second, ← c.digit_of.ensures, c.in_default.is)
+pub returns-in_err-a : goal.returns-in_err-a
+returns-in_err-a c =
+    let no = no_digit _ _ _ (sym c.ok_or.ensures.value ∙ c.in_err-a.was) in
+    handed_on _ _ c.from_residual.ensures.1 ∙ rw (two (goal.at.returns-in_err-a c).Else-end-second, ← c.digit_of.ensures, no.0, no.1, c.at-2.ensures)
 
-pub returns-in_default-digit_of : goal.returns-in_default-digit_of
-returns-in_default-digit_of c = rw (two (goal.at.returns-in_default-digit_of c).Else-end-second, ← c.digit_of.ensures, c.in-Some.is, ← c.digit_of-2.ensures, c.in_default-digit_of.is)
+pub returns-in_err-b : goal.returns-in_err-b
+returns-in_err-b c =
+    let no = no_digit _ _ _ (sym c.ok_or-2.ensures.value ∙ c.in_err-b.was) in
+    handed_on _ _ c.from_residual-in_err-b.ensures.1 ∙ rw (two (goal.at.returns-in_err-b c).Else-end-second, ← c.digit_of.ensures, some_digit _ _ _ (sym c.ok_or.ensures.value ∙ c.in_ok-a.was), ← c.digit_of-2.ensures, no.0, no.1, c.at-3.ensures)
 
 pub returns : goal.returns
-returns c = rw (two (goal.at.returns c).Else-end-second, ← c.digit_of.ensures, c.in-Some.is, ← c.digit_of-2.ensures, c.in-Some-digit_of.is)
+returns c =
+    rw (
+      two (goal.at.returns c).Else-end-second,
+      ← c.digit_of.ensures,
+      some_digit _ _ _ (sym c.ok_or.ensures.value ∙ c.in_ok-a.was),
+      ← c.digit_of-2.ensures,
+      some_digit _ _ _ (sym c.ok_or-2.ensures.value ∙ c.in_ok-b.was),
+    )

@@ -7,14 +7,12 @@ use mir.Val.{Fits}
 use borrow.Author.Rules.{rules}
 use Rattle.recipes.proofs.Steps.{mapped}
 use Rattle.recipes.specs.Demand.{EightLongs}
-use Rattle.recipes.proofs.RunByRule.{made_good, recipe_refused, run_ruled}
+use Rattle.recipes.proofs.Digits.{handed_on}
+use Rattle.recipes.proofs.RunByRule.{recipe_refused, run_ruled}
 use Rattle.recipes.proofs.runner.run_recipe.Goals as goal
 
-pub returns-then-not-is_nothing : goal.returns-then-not-is_nothing
-returns-then-not-is_nothing c = c.untouched.ensures ∙ recipe_refused _ _ _ c.translate_array-made.ensures (sym c.is_nothing.ensures ∙ c.if-not-is_nothing.true)
-
-pub codes_after-codes-requires : goal.codes_after-codes-requires
-codes_after-codes-requires c = (made_good _ _ c.translate_array-made.ensures (sym c.is_nothing.ensures ∙ c.if-not-is_nothing.false)).few
+pub returns-in_err-made : goal.returns-in_err-made
+returns-in_err-made c = handed_on _ _ c.from_residual.ensures.1 ∙ recipe_refused _ _ _ (sym c.in_err-made.ensures)
 
 pub returns : goal.returns
 returns c =
@@ -22,4 +20,4 @@ returns c =
     let count : length c.args.state.d ≡ 8 = search mapped in
     let fits : (i : ℕ) → Fits w32 (get_or c.args.state.d i 0) = λ i. search rules in
     let ok : EightLongs c.args.state.d = record { count = count; each = λ i. (fits i).fits } in
-    run_ruled _ _ _ _ _ c.translate_array-made.ensures (sym c.is_nothing.ensures ∙ c.if-not-is_nothing.false) ok c.run_array-ran.ensures c.codes_after-codes.ensures
+    run_ruled _ _ _ _ _ (sym c.in_ok-made.ensures) ok c.run_array-ran.ensures (rw c.lines.ensures at c.codes_after.ensures)

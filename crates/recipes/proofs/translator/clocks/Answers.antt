@@ -1,20 +1,13 @@
--- `recipes::translator::clocks` meets its contract: a turn of the loop adds one figure. Assumes nothing.
-use Prim.Native.Nat.{◌<◌}
-use mathlib.Core.Path.{◌≡◌, refl}
-use lib.ListN.{length}
-use borrow.Author.Rules.{rules}
-use Rattle.recipes.specs.Listing.{clocks_of}
-use Rattle.recipes.proofs.Steps.{mapped}
-use Rattle.recipes.proofs.Printing.{clocks_next}
-use Rattle.step.specs.Run.{array_slots}
+-- `recipes::translator::clocks` meets its contract: the sum of the figures. Assumes nothing.
+use Rattle.std.proofs.Common.{◌∙◌, rules}
+use Rattle.std.proofs.lemmas.Iterator.{YieldsList-from_slice, YieldsList-from_map}
+use Rattle.std.proofs.lemmas.Iterator.Consumers.{YieldsList-at, sum_by_from_yields_List}
+use Rattle.recipes.specs.Listing.{figure_of}
+use Rattle.recipes.proofs.Printing.{figures_sum}
 use Rattle.recipes.proofs.translator.clocks.Goals as goal
 
-pub loop-k-init : goal.loop-k-init
-unfolding clocks_of
-loop-k-init c = let h : length c.args.steps ≡ array_slots = search mapped in (search rules, search rules, h, refl, search rules)
-
-pub loop-k-preserved : goal.loop-k-preserved
-loop-k-preserved c =
-    let l = c.loop-k in
-    let h : l.k < length c.args.steps = search rules in
-    (search rules, search rules, l.invariant.2, rw (clocks_next _ _ h, c.figure-sum.ensures.0, l.invariant.3), search rules)
+pub returns : goal.returns
+returns c =
+    sum_by_from_yields_List figure_of c.args.steps.now c.map.result c.sum.result c.sum.ensures.ran
+    (YieldsList-from_map _ figure_of (YieldsList-at c.map.ensures.source (YieldsList-from_slice c.args.steps.now cc)) c.map.ensures.closure (λ x r q k. search rules))
+    ∙ figures_sum c.args.steps.now

@@ -9,4 +9,4 @@ use Rattle.recipes.proofs.translator.figure.Goals as goal
 
 pub returns : goal.returns
 unfolding figure_of
-returns c = (ap (λ (o : Performed). o.clocks) (c.perform-performed.ensures ∙ ap (λ (s : State). perform_of s c.args.step) c.at_rest-state.ensures), search rules)
+returns c = (ap (λ (o : Performed). o.clocks) (c.perform-performed.ensures ∙ ap (λ (s : State). perform_of s c.args.step) c.at_rest.ensures), search rules)

@@ -1,52 +1,36 @@
--- `recipes::translator::lay` meets its contract: a turn of the loop lays one step. Assumes nothing.
-use mathlib.Core.Path.{◌≡◌, sym, ap, ◌∙◌}
-use Prim.Native.Nat.{◌+◌}
-use lib.ListN.{length, get_or}
-use Rattle.step.specs.Lines.{with_line}
-use Rattle.recipes.specs.declared.translator.Job.{Job}
-use Rattle.recipes.specs.Recipe.{lines_max, unused}
-use Rattle.recipes.specs.Listing.{line_steps, blank}
-use Rattle.recipes.specs.Making.{job_step}
-use Rattle.recipes.proofs.Steps.{mapped}
-use Rattle.recipes.proofs.Places.{line_at}
-use Rattle.recipes.proofs.Laying.{laid_none, spot_there, laid_step, laid_line}
+-- `recipes::translator::lay` meets its contract: a turn of the loop lays one line behind the others. Assumes nothing.
+use Prim.Native.Nat.{◌+◌, ◌≤◌}
+use borrow.Author.Rules.{rules}
+use Rattle.step.specs.Run.{array_slots}
+use Rattle.recipes.proofs.Laying.{laid_none, laid_all, room, size, slotted, laid_more}
 use Rattle.recipes.proofs.translator.lay.Goals as goal
-use Rattle.recipes.proofs.translator.lay.Goals.{After-line_step-step, After-with_line}
+use Rattle.recipes.proofs.translator.lay.Goals.{After-steps_of}
 
--- the step of a turn, with its line
-step_is : (c : After-with_line)
-    → let l = c.loop-at in
-    let a = c.args in
-    c.with_line.result ≡ with_line (l.k + 2) (get_or (line_steps a.width (get_or a.lines l.k unused)) l.j blank)
-step_is c =
-    let l = c.loop-at in
-    let a = c.args in
-    c.with_line.ensures
-    ∙ ap (with_line (l.k + 2)) (c.line_step-step.ensures
-    ∙ ap (λ (b : Job). job_step a.width b l.j) l.invariant.1
-    ∙ line_at a.width _ l.j (spot_there _ _ _ _ _ _ _ l.invariant.2 c.loop-at-test.true).1.1)
+-- the line's slots are among the array's
+within : (c : After-steps_of) → c.loop-k.at + c.steps_of.result ≤ array_slots
+within c = room _ _ _ _ _ _ c.requires c.loop-k.invariant c.loop-k-test.true (rw c.way_of.ensures at c.steps_of.ensures.0)
 
-pub loop-at-init : goal.loop-at-init
-loop-at-init c =
-    let s = c.args in
-    let h : length s.lines ≡ lines_max = search mapped in
-    (h, rw c.line_at.ensures at c.job_of-job.ensures, rw c.blank-none.ensures (laid_none s.width s.total s.lines c.requires))
+pub loop-k-init : goal.loop-k-init
+loop-k-init c = rw c.blank-steps.ensures (laid_none _ _)
 
-pub line_step-step-requires : goal.line_step-step-requires
-line_step-step-requires c = let l = c.loop-at in rw l.invariant.1 (spot_there _ _ _ _ _ _ _ l.invariant.2 c.loop-at-test.true)
+pub overflow_add-end : goal.overflow_add-end
+overflow_add-end c = let h = within (goal.at.overflow_add-end c).After-steps_of in search rules
 
-pub loop-at-preserved-then-j-job : goal.loop-at-preserved-then-j-job
-loop-at-preserved-then-j-job c =
-    let l = c.loop-at in (
-      l.invariant.0,
-      rw c.line_at-then-j-job.ensures at c.job_of-job-then-j-job.ensures,
-      rw (step_is (goal.at.loop-at-preserved-then-j-job c).After-with_line) (laid_line _ _ _ _ _ _ _ l.invariant.2 c.loop-at-test.true (c.if-j-job.true ∙ ap (λ (b : Job). b.steps) l.invariant.1)),
-    )
+pub offset_bounds-steps-at : goal.offset_bounds-steps-at
+offset_bounds-steps-at c = let h = within (goal.at.offset_bounds-steps-at c).After-steps_of in search rules
 
-pub loop-at-preserved : goal.loop-at-preserved
-loop-at-preserved c =
-    let l = c.loop-at in (
-      l.invariant.0,
-      l.invariant.1,
-      rw (step_is (goal.at.loop-at-preserved c).After-with_line) (laid_step _ _ _ _ _ _ _ l.invariant.2 c.loop-at-test.true (λ e. c.if-j-job.false (e ∙ sym (ap (λ (b : Job). b.steps) l.invariant.1)))),
-    )
+pub slice_bounds-steps-end : goal.slice_bounds-steps-end
+slice_bounds-steps-end c =
+    let h = within (goal.at.slice_bounds-steps-end c).After-steps_of in
+    let all = size _ _ _ _ _ _ c.requires c.loop-k.invariant c.loop-k-test.true (rw c.way_of.ensures at c.steps_of.ensures.0) in
+    search rules
+
+pub lay_line-requires : goal.lay_line-requires
+lay_line-requires c = slotted _ _ _ _ _ _ c.requires c.loop-k.invariant c.loop-k-test.true (rw c.way_of.ensures at c.steps_of.ensures.0)
+
+pub loop-k-preserved : goal.loop-k-preserved
+loop-k-preserved c =
+    laid_more _ _ _ _ _ _ c.requires c.loop-k.invariant c.loop-k-test.true (rw c.way_of.ensures at c.steps_of.ensures.0) _ c.lay_line.ensures
+
+pub returns : goal.returns
+returns c = laid_all _ _ _ _ _ c.loop-k.invariant c.loop-k-test.false

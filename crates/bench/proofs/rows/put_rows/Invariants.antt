@@ -1,5 +1,0 @@
--- `rows::put_rows` is safe and ends: it counts the steps down, and the slice keeps its length. Assumes nothing.
-use Rattle.bench.proofs.rows.put_rows.Given as goal
-
-abbrev pub decreases-loop-left : goal.decreases-loop-left
-decreases-loop-left l = l.left

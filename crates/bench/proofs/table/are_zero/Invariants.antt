@@ -1,6 +1,0 @@
--- `table::are_zero` is safe and ends: the register's number stays within 8. Assumes nothing.
-use Rattle.std.proofs.Common.{◌-◌}
-use Rattle.bench.proofs.table.are_zero.Given as goal
-
-abbrev pub decreases-loop-r : goal.decreases-loop-r
-decreases-loop-r l = 8 - l.r

@@ -1,6 +1,0 @@
--- `table::put_changed` is safe and ends: the register's number stays within 8. Assumes nothing.
-use Rattle.std.proofs.Common.{◌-◌}
-use Rattle.bench.proofs.table.put_changed.Given as goal
-
-abbrev pub decreases-loop-r : goal.decreases-loop-r
-decreases-loop-r l = 8 - l.r
