@@ -7,7 +7,6 @@ mod fields;
 mod runs;
 mod texts;
 
-ghost use Rattle.std.specs.Prelude.{◌≤◌, length};
 ghost use Rattle.io.specs.Counts.{IsPrefixLen};
 
 use input::read_text;
