@@ -20,6 +20,7 @@ pub struct ReadFailed {
 pub fn read_text<R: Read>(from: &mut R, text: &mut [u8]) -> Result<usize, ReadFailed>
     ensures { MatchResult result (λ n. IsPrefixLen n text.new) (λ failed. IsPrefixLen failed.n text.new) }
 {
+    // A loop over `read`: std's `read_to_end` wants a heap, and `read_exact` tells no count where it fails.
     let mut n = 0;
     while n < text.len() {
         match from.read(&mut text[n..]) {

@@ -1,4 +1,5 @@
 // Writing into a lent slice. A writer goes on from where it stands; what has no room is left off.
+// Not by `write!`: std tells what that has written on `Ok` alone, and promises no `Ok`.
 ghost use Rattle.std.specs.Prelude.{◌≡◌, [], ◌∷◌};
 ghost use Rattle.text.specs.Text.{decimal_of, hex_of};
 ghost use Rattle.text.specs.Wrote.{wrote};
