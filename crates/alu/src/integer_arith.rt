@@ -77,7 +77,7 @@ fn add(size: Size, src: u32, dst: u32, x: bool) -> Sum
 }
 
 // dst - src - x in the size's bits; 2^32 keeps it from going below 0. It is the addition src + result = dst, so V is as
-// above with result and dst exchanged. C: a borrow.
+// above with result and dst exchanged. C: a borrow. (With `add` it has the masks alone in common: result, V and C are other formulas.)
 fn subtract(size: Size, src: u32, dst: u32, x: bool) -> Sum
     ensures { result ≡ subtracted (bits_of size) src dst x }
 {

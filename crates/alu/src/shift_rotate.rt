@@ -29,7 +29,8 @@ pub struct Held {
     pub out: bool,
 }
 
-// The operand with X above it, and below it.
+// The operand with X above it, and below it. Of each pair here every line is the mirror of the other's: one function for both would choose in
+// each line, and be longer than the two.
 fn above_of(size: Size, value: u32, x: bool) -> u64
     ensures { (result ≡ above (bits_of size) (start (bits_of size) value x)) × (result < 2 ^ 33) }
 {
@@ -123,7 +124,7 @@ fn turned_left(places: u32, j: u32, ring: u64) -> u64
     (ring << j) % (1 << places) + (ring >> (places - j))
 }
 
-// The count that is left after whole rounds of bits, and of bits + 1.
+// The count that is left after whole rounds of bits, and of bits + 1. A constant in each arm: there is no division.
 fn round(size: Size, k: u32) -> u32
     ensures { (result ≡ k % bits_of size) × (result < bits_of size) }
 {
@@ -203,7 +204,7 @@ pub fn exec_asl(size: Size, shift: u32, value: u32, flags: Flags) -> Answer
     shifted(size, k, value, h, v)
 }
 
-// ASR Dx,Dy and ASR #<data>,Dy
+// ASR Dx,Dy and ASR #<data>,Dy. (ASR, LSL and LSR differ in the one call: a parameter for it, with what it promises, is longer than they are.)
 #[tactic(auto, unfolding(crate::specs::Shifts::shift_of))]
 pub fn exec_asr(size: Size, shift: u32, value: u32, flags: Flags) -> Answer
     ensures { result ≡ shift_of ShiftOp.Asr size shift value flags }
@@ -262,7 +263,7 @@ pub fn exec_ror(size: Size, shift: u32, value: u32, flags: Flags) -> Answer
 }
 
 // ROXL Dx,Dy and ROXL #<data>,Dy. C and X are the one bit, after whole rounds too (9 on a byte). The
-// figure is of the whole count. (One function for ROXL and ROXR, which takes what `roxl` or `roxr` gives, takes 18 instructions more.)
+// figure is of the whole count. (One function for ROXL and ROXR, with the refusal in it, takes 13 to 19 instructions more.)
 #[tactic(auto, unfolding(crate::specs::Shifts::shift_of))]
 pub fn exec_roxl(size: Size, shift: u32, value: u32, flags: Flags) -> Answer
     ensures { result ≡ shift_of ShiftOp.Roxl size shift value flags }
