@@ -22,6 +22,7 @@ use Rattle.std.specs.Prelude.{Result}
 use Rattle.recipes.specs.declared.types.Refused.{Refused}
 use Rattle.text.specs.Wrote.{Written, written, writing}
 use Rattle.recipes.specs.Reader.{read_of}
+use Rattle.step.specs.Run.{array_slots}
 use Rattle.recipes.specs.Listing.{Translated, translated, translate_of}
 use Rattle.recipes.specs.Printer.{step_text, listing_text, refusal_text, printed_of, answer_of}
 use Rattle.recipes.specs.Demand.{text_run_of}
@@ -68,11 +69,11 @@ module _ {M : Type 1} {𝓤 : Ura M} (𝓛 : Logic 𝓤) (mem : Memory → SProp
     all = λ r r' ws ws' e. (ap count_in e, ap (λ (w : Written). (tt, (tt, (w.bytes, tt)))) e);
   }
 
-  pub print_determined : (κs : Lfts 1) (a : Args print.signature κs) → OneExit 𝓤 print.ended κs a (λ r ws. written ws.1.1.1.0 r) ((print.clauses 𝓛 mem go κs a).ensures tt)
+  pub print_determined : (κs : Lfts 2) (a : Args print.signature κs) → OneExit 𝓤 print.ended κs a (λ r ws. written ws.1.1.0 r) ((print.clauses 𝓛 mem go κs a).ensures tt)
   print_determined κs a = record {
-    of = writing a.1.1.1.0.now 0 (listing_text a.0 (take a.1.1.0 a.1.0));
+    of = writing a.1.1.0.now 0 (listing_text a.0 (take array_slots a.1.0.now));
     is = λ r ws. refl;
-    all = λ r r' ws ws' e. (ap count_in e, ap (λ (w : Written). (tt, (tt, (tt, (w.bytes, tt))))) e);
+    all = λ r r' ws ws' e. (ap count_in e, ap (λ (w : Written). (tt, (tt, (w.bytes, tt)))) e);
   }
 
   pub print_refusal_determined : (κs : Lfts 1) (a : Args print-refusal.signature κs) → OneExit 𝓤 print-refusal.ended κs a (λ r ws. written ws.1.0 r) ((print-refusal.clauses 𝓛 mem go κs a).ensures tt)

@@ -11,7 +11,6 @@ use Rattle.step.specs.Perform.{perform_of}
 use Rattle.step.specs.Parts.{goes_on, run_in_parts, PartsGo, total}
 use Rattle.step.specs.Lines.{with_line, bare}
 use Rattle.step.specs.declared.racks.Boxed.{Boxed}
-use Rattle.step.specs.declared.racks.Fit.TheVariants.{Fits}
 use Rattle.step.specs.Rack.{plan_of, state_of, box_in_parts}
 use Rattle.recipes.specs.declared.types.Line.{Line}
 use Rattle.recipes.specs.declared.types.Recipe.{Recipe}
@@ -113,7 +112,7 @@ EachStep =
 abbrev pub EachBox : Type 0
 EachBox =
     (w : ℕ) → 0 < w → (ls : List Line) → Accepted w ls → (l : List Step) → map bare l ≡ listing_of w ls
-    → (sets : List State) (starts : List ℕ) (answers : List Boxed) → (plan_of (length sets) (length starts) (length answers)).fit ≡ Fits
+    → (sets : List State) (starts : List ℕ) (answers : List Boxed) → IsOk (plan_of (length sets) (length starts) (length answers))
     → (i : ℕ) (d : Ran) → i < length sets → let s = get_or sets i (state_of d) in
     EightLongs s.d → get_or starts i d.next ≡ 0 → (b : ℕ) (bs : List ℕ) → steps_of w ls ≤ total b bs
     → let r = box_in_parts perform_of l d i sets starts answers b bs in PartsGo perform_of l s 0 b bs × ((r.end ≡ Finished) × Meets w ls s r)

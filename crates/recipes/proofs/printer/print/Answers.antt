@@ -12,10 +12,10 @@ returns c =
     let shown : take c.min.result c.args.steps.now ≡ take array_slots c.args.steps.now = rw c.min.ensures (take_min array_slots c.args.steps.now) in
     ends _ _ _
     (rw (c.from.ensures, c.clocks.ensures, shown) at
-        (simp append_assoc at
-            (next _ _ _ _ _ c.put_head.ensures
-            (next _ _ _ _ _ c.byte.ensures
-            (next _ _ _ _ _ c.put_steps.ensures
-            (next _ _ _ _ _ c.bytes.ensures
-            (next _ _ _ _ _ c.number.ensures c.byte-2.ensures)))))))
+    (simp append_assoc at
+    (next _ _ _ _ _ c.put_head.ensures
+    (next _ _ _ _ _ c.byte.ensures
+    (next _ _ _ _ _ c.put_steps.ensures
+    (next _ _ _ _ _ c.bytes.ensures
+    (next _ _ _ _ _ c.number.ensures c.byte-2.ensures)))))))
     (search rules)

@@ -11,7 +11,7 @@ unfolding printed_of
 returns-in-Ok c =
     let long : length c.in-Ok.made.steps ≡ array_slots = search mapped in
     let whole : take array_slots (take c.in-Ok.made.count c.in-Ok.made.steps) ≡ take c.in-Ok.made.count c.in-Ok.made.steps =
-        take_all array_slots (take c.in-Ok.made.count c.in-Ok.made.steps) (omega (arith, length-take c.in-Ok.made.count c.in-Ok.made.steps)) in
+    take_all array_slots (take c.in-Ok.made.count c.in-Ok.made.steps) (omega (arith, length-take c.in-Ok.made.count c.in-Ok.made.steps)) in
     rw (← c.translate_array.ensures, c.in-Ok.is) (rw (c.steps.ensures, whole) at c.print.ensures)
 
 pub returns-in-Err : goal.returns-in-Err
