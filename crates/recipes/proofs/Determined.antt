@@ -3,8 +3,9 @@
 --     determined       the functions that are lent nothing
 --     .. -determined   those that are lent a slice or a row of steps, by `OneExit` of the crate step: at exit the contract says one equation, of the
 --                      whole answer, the result together with all that stands behind the references. tools/contracts looks that none is left out
+--     OneExit-lent     what is shown of a method that hands out a slice of its own struct: what stands there. (Where that is, the kit's logic alone says.)
 -- Assumes nothing.
-use mathlib.Core.Path.{refl, ap}
+use mathlib.Core.Path.{◌≡◌, refl, ap}
 use mathlib.Core.List.{List, [], ◌∷◌}
 use Prim.Native.Nat.{ℕ}
 use lib.ListN.{take}
@@ -13,14 +14,17 @@ use base.Logic.{SProp}
 use prog.Memory.{Memory}
 use prog.Routine.{Routine}
 use types.Logic.{Logic}
-use contract.Monad.{Fun}
+use contract.Monad.{Fun, fact}
 use contract.Lifetimes.{Lfts}
-use denote.Triple.Entry.{Args}
+use denote.Triple.Entry.{Args, Res}
+use denote.Triple.Clauses.{Ended, Lasts, AtExit, at_exit}
 use Rattle.alu.proofs.Determined.{Fixed, fixed, one_equation}
 use Rattle.step.proofs.Determined.{OneExit}
 use Rattle.std.specs.Prelude.{Result}
 use Rattle.recipes.specs.declared.types.Refused.{Refused}
 use Rattle.text.specs.Wrote.{Written, written, writing}
+use Rattle.step.specs.Run.{array_slots}
+use Rattle.recipes.specs.Recipe.{recipe_lines}
 use Rattle.recipes.specs.Reader.{read_of}
 use Rattle.step.specs.Run.{array_slots}
 use Rattle.recipes.specs.Listing.{Translated, translated, translate_of}
@@ -32,6 +36,8 @@ use Rattle.recipes.proofs.types.RecipeDefault.default.Reads as recipe-default
 use Rattle.recipes.proofs.lines.target.Reads as target
 use Rattle.recipes.proofs.translator.translate_array.Reads as translate-array
 use Rattle.recipes.proofs.runner.run_recipe.Reads as run-recipe
+use Rattle.recipes.specs.contracts.types.Recipe.lines as lines
+use Rattle.recipes.specs.contracts.types.Listing.steps as steps
 use Rattle.recipes.specs.contracts.reader.read as read
 use Rattle.recipes.specs.contracts.lent.translate as translate
 use Rattle.recipes.specs.contracts.printer.print_step as print-step
@@ -51,7 +57,18 @@ told_in t = t.told
 abbrev count_in : Written → ℕ
 count_in w = w.next
 
+module _ {M : Type 1} (𝓤 : Ura M) (T : Ended) (κs : Lfts T.signature.lifetimes) (a : Args T.signature κs) {Lent : Type 0} (lent : Res T.signature κs → Lent) where
+  pub record OneExit-lent (says : Res T.signature κs → AtExit T κs → SProp 𝓤) : Type 2 where
+    pub of : Lent
+    pub is : (r : Res T.signature κs) (ws : Lasts T κs a) → says r (at_exit T κs a ws) ≡ fact 𝓤 (lent r ≡ of)
+
 module _ {M : Type 1} {𝓤 : Ura M} (𝓛 : Logic 𝓤) (mem : Memory → SProp 𝓤) (go : Routine → Fun 𝓤) where
+  pub lines_determined : (κs : Lfts 1) (a : Args lines.signature κs) → OneExit-lent 𝓤 lines.ended κs a (λ r. r.now) ((lines.clauses 𝓛 mem go κs a).ensures tt)
+  lines_determined κs a = record { of = recipe_lines a.0.now; is = λ r ws. refl }
+
+  pub steps_determined : (κs : Lfts 1) (a : Args steps.signature κs) → OneExit-lent 𝓤 steps.ended κs a (λ r. r.now) ((steps.clauses 𝓛 mem go κs a).ensures tt)
+  steps_determined κs a = record { of = take a.0.now.count a.0.now.steps; is = λ r ws. refl }
+
   pub read_determined : (κs : Lfts 1) (a : Args read.signature κs) → OneExit 𝓤 read.ended κs a (λ r ws. r) ((read.clauses 𝓛 mem go κs a).ensures tt)
   read_determined κs a = record { of = read_of a.0.now; is = λ r ws. refl; all = λ r r' ws ws' e. (e, refl) }
 

@@ -8,7 +8,8 @@ use native.Mathlib.Omega.{arith}
 use borrow.Author.Tests.{ne_eqb}
 use lib.Dec.{eqb}
 use lib.ListN.{length, get_or}
-use Rattle.std.specs.Prelude.{None}
+use Rattle.std.specs.Prelude.{None, Some}
+use Rattle.recipes.specs.declared.types.Verb.TheVariants.{Clear, Halve}
 use Rattle.text.specs.Text.{same_bytes}
 use Rattle.recipes.specs.Reader.{verb_of}
 
@@ -85,6 +86,27 @@ five_word_c (x ∷ y ∷ z ∷ []) e c h = absurd (omega arith)
 five_word_c (x ∷ y ∷ z ∷ u ∷ []) e c h = absurd (omega arith)
 five_word_c (x ∷ y ∷ z ∷ u ∷ v ∷ []) e c h = let a = ne_eqb x 104 (λ i. omega arith) in let l = ne_eqb y 108 h in simp (a, l, and-false)
 five_word_c (x ∷ y ∷ z ∷ u ∷ v ∷ w ∷ word) e c h = absurd (omega arith)
+
+-- the verbs of five bytes, byte by byte
+pub clear_word : (word : List ℕ) → length word ≡ 5 → get_or word 0 0 ≡ 99 → get_or word 1 0 ≡ 108 → get_or word 2 0 ≡ 101 → get_or word 3 0 ≡ 97 → get_or word 4 0 ≡ 114 → verb_of word ≡ Some Clear
+unfolding verb_of same_bytes
+clear_word [] e h0 h1 h2 h3 h4 = absurd (omega arith)
+clear_word (x ∷ []) e h0 h1 h2 h3 h4 = absurd (omega arith)
+clear_word (x ∷ y ∷ []) e h0 h1 h2 h3 h4 = absurd (omega arith)
+clear_word (x ∷ y ∷ z ∷ []) e h0 h1 h2 h3 h4 = absurd (omega arith)
+clear_word (x ∷ y ∷ z ∷ u ∷ []) e h0 h1 h2 h3 h4 = absurd (omega arith)
+clear_word (x ∷ y ∷ z ∷ u ∷ v ∷ []) e h0 h1 h2 h3 h4 = rw (h0, h1, h2, h3, h4)
+clear_word (x ∷ y ∷ z ∷ u ∷ v ∷ w ∷ word) e h0 h1 h2 h3 h4 = absurd (omega arith)
+
+pub halve_word : (word : List ℕ) → length word ≡ 5 → get_or word 0 0 ≡ 104 → get_or word 1 0 ≡ 97 → get_or word 2 0 ≡ 108 → get_or word 3 0 ≡ 118 → get_or word 4 0 ≡ 101 → verb_of word ≡ Some Halve
+unfolding verb_of same_bytes
+halve_word [] e h0 h1 h2 h3 h4 = absurd (omega arith)
+halve_word (x ∷ []) e h0 h1 h2 h3 h4 = absurd (omega arith)
+halve_word (x ∷ y ∷ []) e h0 h1 h2 h3 h4 = absurd (omega arith)
+halve_word (x ∷ y ∷ z ∷ []) e h0 h1 h2 h3 h4 = absurd (omega arith)
+halve_word (x ∷ y ∷ z ∷ u ∷ []) e h0 h1 h2 h3 h4 = absurd (omega arith)
+halve_word (x ∷ y ∷ z ∷ u ∷ v ∷ []) e h0 h1 h2 h3 h4 = rw (h0, h1, h2, h3, h4)
+halve_word (x ∷ y ∷ z ∷ u ∷ v ∷ w ∷ word) e h0 h1 h2 h3 h4 = absurd (omega arith)
 
 -- for a tactic
 pub ruleset by_length = (short_word, two_word, three_word, four_word, five_word, long_word)
