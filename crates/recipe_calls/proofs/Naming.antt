@@ -1,7 +1,7 @@
 -- Laws of a word's lowest byte, and of how many steps words name. Assumes nothing.
 --     low         the byte by its place, and as a remainder
 --     first_few   no more steps than an array holds
-use Prim.Native.Nat.{ℕ, ◌/◌, ◌%◌, ◌≤◌}
+use Prim.Native.Nat.{ℕ, ◌%◌, ◌≤◌}
 use mathlib.Core.Path.{◌≡◌, ap}
 use mathlib.Core.List.{List}
 use native.Mathlib.Nat.{div-one}

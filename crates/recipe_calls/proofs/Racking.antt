@@ -14,7 +14,7 @@ use Rattle.std.specs.Prelude.{Ok, Err, IsOk}
 use Rattle.std.specs.Result.{result_unwrap_or}
 use Rattle.std.specs.List.{flat_map}
 use Rattle.std.proofs.lemmas.Grind.{common_steps}
-use lib.Seq.{take_all, length-take-le, take-append_seam, drop-append_seam, drop-append-add, drop-drop, take_at, paste}
+use lib.Seq.{take_all, length-take-le, take-append_seam, drop-append-add, drop-drop, take_at, paste}
 use Rattle.alu.specs.ConditionCodes.{ccr_of}
 use Rattle.step.specs.declared.registers.State.{State}
 use Rattle.step.specs.declared.forms.Step.{Step}

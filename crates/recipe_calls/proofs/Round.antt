@@ -1,7 +1,7 @@
 -- Words there and back: the word of a step names that step, and so a listing that is handed out in words is run as it was made. Assumes nothing.
 --     word_names, words_name   a step, and a listing of at most `array_slots`
-use Prim.Native.Nat.{ℕ, zero, suc, ◌/◌, ◌%◌, ◌<◌, ◌≤◌}
-use mathlib.Core.Path.{◌≡◌, refl, sym, ap, ap₂, ◌∙◌}
+use Prim.Native.Nat.{ℕ, zero, suc, ◌<◌, ◌≤◌}
+use mathlib.Core.Path.{◌≡◌, refl, ap, ◌∙◌}
 use mathlib.Core.List.{List, [], ◌∷◌, map}
 use lib.Dec.{lit<}
 use native.Mathlib.Omega.{arith}
@@ -20,10 +20,9 @@ use Rattle.step.specs.declared.forms.Operation.{Operation}
 use Rattle.step.specs.Operations.{operation_number, operation_of}
 use Rattle.step.proofs.Operations.{stands}
 use Rattle.step.specs.Run.{array_slots}
-use Rattle.step.specs.Lines.{with_line}
 use Rattle.recipe_calls.specs.declared.words.Source.{Source}
 use Rattle.recipe_calls.specs.declared.words.Source.TheVariants.{Absent, Small, Data}
-use Rattle.recipe_calls.specs.Words.{byte_radix, source_at, made_of, size_at, named, bare_of, step_of, first_of, step_word}
+use Rattle.recipe_calls.specs.Words.{byte_radix, source_at, made_of, size_at, named, step_of, first_of, step_word}
 use Rattle.recipe_calls.specs.Words.{size_number, source_of, kind_of, number_in, source_kind, source_number, destination_number}
 use Rattle.recipe_calls.proofs.Naming.{low}
 

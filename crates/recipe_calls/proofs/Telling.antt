@@ -2,12 +2,12 @@
 --     unread, unlisted   a text that the reader refuses, and one that the translator refuses
 --     fits, short        a translation made in an array, handed to a row that has room for it, and to one that has not: that into as many slots
 use Prim.Native.Nat.{◌≤◌, ◌<◌, ℕ}
-use mathlib.Core.Path.{◌≡◌, refl, sym, ap, ◌∙◌}
+use mathlib.Core.Path.{◌≡◌}
 use mathlib.Core.List.{List, map}
 use borrow.Author.Tests.{le-ltb, lt-ltb}
 use lib.ListN.{length, take, drop, replicate, length-replicate}
 use lib.Seq.{take_at, length-take-le}
-use Rattle.std.specs.Prelude.{Result, Ok, Err}
+use Rattle.std.specs.Prelude.{Ok, Err}
 use Rattle.step.specs.declared.forms.Step.{Step}
 use Rattle.step.specs.Lent.{over}
 use Rattle.recipes.specs.declared.types.Recipe.{Recipe}
@@ -16,7 +16,7 @@ use Rattle.recipes.specs.declared.types.Refused.{Refused}
 use Rattle.recipes.specs.declared.types.Listing.{Listing}
 use Rattle.recipes.specs.Recipe.{at_line}
 use Rattle.recipes.specs.Reader.{read_of}
-use Rattle.recipes.specs.Listing.{blank, array_of, translate_of}
+use Rattle.recipes.specs.Listing.{blank, array_of}
 use Rattle.recipes.proofs.Settling.{copied, blanks_hold, translate_lent}
 use Rattle.recipe_calls.specs.Words.{step_word}
 use Rattle.recipe_calls.specs.Calls.{row_left, translation_told, listed_in, translate_words}

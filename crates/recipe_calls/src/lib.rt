@@ -243,7 +243,9 @@ pub fn recipe_run(
     match run_text(text, before) {
         Ok(ran) => {
             let RecipeRun {
-                d: new_d, a: new_a, ..
+                d: new_d,
+                a: new_a,
+                ..
             } = ran;
             *d = new_d;
             *a = new_a;

@@ -5,9 +5,7 @@ ghost use Rattle.recipe_calls.specs.Words.{source_at, kind_of, number_in, of_reg
 ghost use Rattle.recipe_calls.specs.Words.{size_number, register_number, source_of, destination_number, step_word};
 
 use alu::types::Size;
-use step::forms::{
-    Count, Form, Operation, Register, Step, operation_at, operation_of, with_line,
-};
+use step::forms::{Count, Form, Operation, Register, Step, operation_at, operation_of, with_line};
 use step::registers::{A, D};
 
 // A form's source.

@@ -38,4 +38,4 @@ returns c =
     ap (rack_left l.d l.a l.flags l.answers) c.rack_told.ensures
     ∙ (after_all a.listing.now a.d.now a.a.now a.flags.now a.starts.now a.budget a.answers.now l.d l.a l.flags l.answers l.i p within.sets within.starts all l.invariant
     ∙ ap (rack_by a.listing.now a.d.now a.a.now a.flags.now a.starts.now a.budget a.answers.now)
-      (c.plan-plan.ensures ∙ ap (λ (m : ℕ). plan_of (length a.flags.now) (length a.starts.now) (m / 8)) is))
+    (c.plan-plan.ensures ∙ ap (λ (m : ℕ). plan_of (length a.flags.now) (length a.starts.now) (m / 8)) is))
