@@ -26,6 +26,7 @@ use Rattle.text.specs.Wrote.{Written, written, writing}
 use Rattle.step.specs.Run.{array_slots}
 use Rattle.recipes.specs.Recipe.{recipe_lines}
 use Rattle.recipes.specs.Reader.{read_of}
+use Rattle.step.specs.Run.{array_slots}
 use Rattle.recipes.specs.Listing.{Translated, translated, translate_of}
 use Rattle.recipes.specs.Printer.{step_text, listing_text, refusal_text, printed_of, answer_of}
 use Rattle.recipes.specs.Demand.{text_run_of}
