@@ -23,7 +23,6 @@ use Rattle.step.proofs.Determined.{OneExit}
 use Rattle.std.specs.Prelude.{Result}
 use Rattle.recipes.specs.declared.types.Refused.{Refused}
 use Rattle.text.specs.Wrote.{Written, written, writing}
-use Rattle.step.specs.Run.{array_slots}
 use Rattle.recipes.specs.Recipe.{recipe_lines}
 use Rattle.recipes.specs.Reader.{read_of}
 use Rattle.step.specs.Run.{array_slots}

@@ -93,6 +93,7 @@ pub(crate) fn is_width(width: u8) -> bool
 }
 
 // Whether a line may stand in a recipe of so many numbers, or why it may not.
+#[tactic(auto, unfolding(crate::specs::Recipe::line_refusal))]
 pub(crate) fn check_line(numbers: u8, line: Line) -> Result<(), Refusal>
     ensures { result ≡ line_refusal numbers line }
 {

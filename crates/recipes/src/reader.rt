@@ -54,6 +54,7 @@ fn verb_of(field: &[u8]) -> Option<Verb>
 }
 
 // The digit that is the only field.
+#[tactic(auto, using(text::proofs::Texts::first_tells))]
 fn only_digit(fields: &[u8]) -> Option<u8>
     ensures { result ≡ only_digit (parts 9 fields.now) }
 {
@@ -78,7 +79,8 @@ fn read_one(verb: Verb, at: usize, fields: &[u8]) -> Result<Line, Slip>
     Ok(Line { verb, a, b: 0 })
 }
 
-// The line of a verb that takes two.
+// The line of a verb that takes two. Apart from `read_one`: a field more means another slip and another column at each tab, and one
+// function over a count would ask at each which it is.
 fn read_two(verb: Verb, at: usize, fields: &[u8]) -> Result<Line, Slip>
     requires { at + length fields.now + 4 < 2 ^ 64 }
     ensures { result ≡ two_fields verb at (parts 9 fields.now) }
@@ -120,6 +122,7 @@ fn read_fields(row: &[u8]) -> Result<Line, Slip>
 }
 
 // A text line as a line of a recipe of so many numbers.
+#[tactic(auto, using(crate::proofs::Digits::handed_on), unfolding(crate::specs::Reader::line_of))]
 fn read_line(numbers: u8, row: &[u8]) -> Result<Line, Slip>
     ensures { result ≡ line_of numbers row.now }
 {
@@ -150,7 +153,8 @@ fn read_width(row: &[u8]) -> Option<u8>
     width_digit(only_digit(&row[tab + 1..]))
 }
 
-// The lines after the width line. Line `count` of a recipe, from 0, is text line `count` + 2.
+// The lines after the width line. Line `count` of a recipe, from 0, is text line `count` + 2. A `while`: it goes down what is left
+// of the text, which no count tells.
 fn read_lines(width: u8, text: &[u8]) -> Result<Recipe, Refused>
     requires { 0 < width }
     ensures { result ≡ lines_of width [] (before 10 text.now) (after 10 text.now) }

@@ -60,6 +60,7 @@ pub fn print_recipe(recipe: Recipe, out: &mut [u8]) -> usize
 }
 
 // What the program `recipe` prints for the text that it read.
+#[tactic(auto, unfolding(crate::specs::Printer::answer_of))]
 pub fn answer(text: &[u8], out: &mut [u8]) -> usize
     ensures { written out.new result ≡ writing out.old 0 (answer_of text.now) }
 {

@@ -205,6 +205,7 @@ fn at_rest() -> State
 }
 
 // The clock figure of a step, asked of the machine. A step of a recipe has the same figure whatever the registers hold.
+#[tactic(auto, unfolding(crate::specs::Listing::figure_of))]
 fn figure(step: Step) -> u64
     ensures { (result ≡ figure_of step) × (result < 2 ^ 32) }
 {

@@ -134,7 +134,7 @@ pub fn at_line(refusal: Refusal, line: usize) -> Refused
     at_column(refusal, line, 0)
 }
 
-// A listing by value: its first `count` slots. The others are blank.
+// A listing by value: its first `count` slots. The others are blank. An array with a count beside it, as `Recipe`.
 #[derive(Clone, Copy)]
 pub struct Listing {
     pub count: usize,

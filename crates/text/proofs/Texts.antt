@@ -3,6 +3,7 @@
 --     same_pointwise                   std's `==` on slices says the same
 --     First                            an index tells how a byte parts a text: the part before it, and the rest as `&s[i + 1..]` gives it
 --     first_tells, first_by            the length of the part before does
+--     first_found                      it is what `position` finds, or the length
 use Rattle.std.proofs.Common.{Some, None, not, ltb, ◌≡◌, ℕ, suc, ◌+◌, ◌-◌, ◌<◌, ◌≤◌, Bool, true, false, cond, ◌&&◌, eqb, List, [], ◌∷◌, length, take, drop, sym, refl, ap, ◌∙◌, ap₂, le_refl, le_of_suc-le-suc, not-suc-le-zero, add-one, arith, length-drop, length-take-le, take_all, eq-eqb, eqb-true, nat_eq}
 use mathlib.Core.Bool.{false≢true}
 use lib.Pointwise.{pointwise}

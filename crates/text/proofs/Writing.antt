@@ -5,6 +5,9 @@
 --     wrote_counts    the next place is a count of the slice
 --     wrote_whole     a text for which there is room stands at the front, whole
 --     wrote_all       and the next place is its length
+--     holds           a writer holds what its fields are left as
+--     next            one text, and another behind it, by a writer's methods
+--     ends            what a slice is left as once its writer is gone
 use Rattle.std.proofs.Common.{◌≡◌, ℕ, suc, ◌+◌, ◌-◌, ◌<◌, ◌≤◌, min, max, List, [], ◌∷◌, ◌++◌, length, take, drop, set, sym, refl, ap, ◌∙◌, ap₂, append_assoc, append-nil, add-zero, add-suc, suc-add, arith, length-append, length-drop, take-append-drop, drop_of_length-le, length-take-le, take_all, drop-drop, take_at}
 use native.Mathlib.Decide.{dec_le}
 use lib.Seq.{sets, length-sets, set_out, take-nil, set-append_seam, append_snoc}
@@ -110,7 +113,7 @@ wrote_whole o s {p} {r} v h =
 
 -- ---- writers
 
--- by what its slice and its place are left as
+-- a writer, by what its slice and its place are left as
 pub holds : (w : Writer) (s : List ℕ) {p : List ℕ} {r : ℕ} → Wrote w.out.now w.at s p r → record w { out = record w.out { now = p }; at = r } ≡ wrote w s
 holds w s l = ap (λ (left : Written). record w { out = record w.out { now = left.bytes }; at = left.next }) l
 
