@@ -97,6 +97,7 @@ pub fn condition_at(number: u8) -> Option<Condition>
 }
 
 // Whether a condition holds: the bit of its word at the setting of the flags, which is the lower four bits of their byte.
+#[tactic(auto, using(crate::proofs::ConditionTable::table_holds))]
 pub fn holds(condition: Condition, flags: Flags) -> bool
     ensures { result ≡ condition_holds condition flags }
 {

@@ -1,5 +1,5 @@
 // The integer arithmetic of registers, on values and flags: integer_arith.rs of the crate m68k, in its
-// order. In a contract `top`, `raised` and `refigured` are the definitions of specs/, not the functions.
+// order. In a contract `raised` and `refigured` are the definitions of specs/, not the functions.
 //
 // Bits of an operand above its size do not count, but: an address register is used whole, and so is the
 // source of ADDQ and SUBQ on one; EXT word keeps the upper 16 bits; CMP, CMPA and CHK hand the
@@ -48,6 +48,7 @@ impl Sum {
 }
 
 // The flags of a sum or a difference: V is the top bit of `overflow`, X = C.
+#[tactic(auto, using(crate::proofs::Bitwise::top_weight))]
 fn sum_of(w: Width, res: u32, overflow: u32, c: bool) -> Sum
     ensures { (n : ℕ) → w ≡ width_of n → res < 2 ^ n → result ≡ summed n res (top n overflow) c }
 {
@@ -76,7 +77,7 @@ fn add(size: Size, src: u32, dst: u32, x: bool) -> Sum
 }
 
 // dst - src - x in the size's bits; 2^32 keeps it from going below 0. It is the addition src + result = dst, so V is as
-// above with result and dst exchanged. C: a borrow.
+// above with result and dst exchanged. C: a borrow. (With `add` it has the masks alone in common: result, V and C are other formulas.)
 fn subtract(size: Size, src: u32, dst: u32, x: bool) -> Sum
     ensures { result ≡ subtracted (bits_of size) src dst x }
 {
@@ -94,6 +95,7 @@ fn subtract(size: Size, src: u32, dst: u32, x: bool) -> Sum
 }
 
 // The signed number in the size's bits, raised by half of 2 to their number so that it is not below 0.
+#[tactic(auto, unfolding(crate::specs::Bits::raised))]
 fn raised(size: Size, x: u32) -> u32
     ensures { result ≡ raised (bits_of size) x }
 {
@@ -268,6 +270,7 @@ pub fn exec_not(size: Size, dst: u32, flags: Flags) -> Answer
 }
 
 // What EXT makes of the register: byte to word, the upper 16 bits kept; word to long.
+#[tactic(auto, using(crate::proofs::Extension::extended_lt))]
 fn ext_result(size: Size, dst: u32) -> u32
     ensures { result ≡ ext_result size dst }
 {
@@ -288,6 +291,7 @@ pub fn exec_ext(size: Size, dst: u32, flags: Flags) -> Answer
 }
 
 // N and Z of the result; V and C are cleared, X is kept. (m68k has it in data_movement.rs.)
+#[tactic(auto, unfolding(crate::specs::ConditionCodes::logic_flags))]
 pub fn set_logic_flags(size: Size, res: u32, flags: Flags) -> Flags
     ensures { result ≡ logic_flags (bits_of size) res flags }
 {
@@ -296,6 +300,7 @@ pub fn set_logic_flags(size: Size, res: u32, flags: Flags) -> Flags
 
 // Whether the word in Dn is not below 0 and not above the bound. Below 8000 hex a word is its own signed number; a value
 // that is not above such a bound is one too.
+#[tactic(auto, using(crate::proofs::Checks::pass_low))]
 fn chk_passes(bound: u32, value: u32) -> bool
     ensures { result ≡ eqb (class_of (check_of 16 bound value)) 0 }
 {
@@ -305,6 +310,7 @@ fn chk_passes(bound: u32, value: u32) -> bool
 }
 
 // What CHK answers then.
+#[tactic(auto, using(crate::proofs::Checks::pass_sign))]
 fn chk_passed(value: u32, flags: Flags) -> Answer
     ensures { (bound : ℕ) → check_of 16 bound value ≡ Check.Pass → result ≡ (chk_of Size.Word bound value flags).answer }
 {
@@ -366,6 +372,7 @@ fn only_word(size: Size, flags: Flags, checked: Checked) -> Checked
 }
 
 // What CHK of words answers, whatever its class; asked where it doesn't pass. N is the value's sign.
+#[tactic(auto, using(crate::proofs::Integers::signed_sign))]
 fn chk_trap(bound: u32, value: u32, flags: Flags) -> Checked
     ensures { result ≡ chk_of Size.Word bound value flags }
 {

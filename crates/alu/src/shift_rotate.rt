@@ -1,5 +1,5 @@
 // ASL, ASR, LSL, LSR, ROL, ROR, ROXL and ROXR of a data register, on values and flags: shift_rotate.rs
-// of the crate m68k, in its order. In a contract `shifted` is the definition of specs/, not the function here.
+// of the crate m68k, in its order. In a contract `shifted` and `rotated` are the definitions of specs/, not the functions here.
 //
 // `shift` is document 01's count. The code puts X beside the operand and moves bits + 1 places at once in 64 bits. m68k's cases
 // for counts at and above the size fall away: what stands in X's place at the end is the last bit out.
@@ -29,7 +29,8 @@ pub struct Held {
     pub out: bool,
 }
 
-// The operand with X above it, and below it.
+// The operand with X above it, and below it. Of each pair here every line is the mirror of the other's: one function for both would choose in
+// each line, and be longer than the two.
 fn above_of(size: Size, value: u32, x: bool) -> u64
     ensures { (result ≡ above (bits_of size) (start (bits_of size) value x)) × (result < 2 ^ 33) }
 {
@@ -115,6 +116,7 @@ fn asl_overflow(size: Size, k: u32, value: u32) -> bool
 }
 
 // A ring of so many places, turned to the left by j of them.
+#[tactic(auto, using(crate::proofs::Rings::turned_64))]
 fn turned_left(places: u32, j: u32, ring: u64) -> u64
     requires { (0 < places) × (places ≤ 33) × (j ≤ places) × (ring < 2 ^ places) }
     ensures { (result ≡ turned_left places j ring) × (result < 2 ^ places) }
@@ -122,7 +124,7 @@ fn turned_left(places: u32, j: u32, ring: u64) -> u64
     (ring << j) % (1 << places) + (ring >> (places - j))
 }
 
-// The count that is left after whole rounds of bits, and of bits + 1.
+// The count that is left after whole rounds of bits, and of bits + 1. A constant in each arm: there is no division.
 fn round(size: Size, k: u32) -> u32
     ensures { (result ≡ k % bits_of size) × (result < bits_of size) }
 {
@@ -192,6 +194,7 @@ fn shifted(size: Size, k: u32, value: u32, h: Held, v: bool) -> Answer
 }
 
 // ASL Dx,Dy and ASL #<data>,Dy
+#[tactic(auto, using(crate::proofs::Turns::asl_turns), unfolding(crate::specs::Shifts::shift_of))]
 pub fn exec_asl(size: Size, shift: u32, value: u32, flags: Flags) -> Answer
     ensures { result ≡ shift_of ShiftOp.Asl size shift value flags }
 {
@@ -201,7 +204,8 @@ pub fn exec_asl(size: Size, shift: u32, value: u32, flags: Flags) -> Answer
     shifted(size, k, value, h, v)
 }
 
-// ASR Dx,Dy and ASR #<data>,Dy
+// ASR Dx,Dy and ASR #<data>,Dy. (ASR, LSL and LSR differ in the one call: a parameter for it, with what it promises, is longer than they are.)
+#[tactic(auto, unfolding(crate::specs::Shifts::shift_of))]
 pub fn exec_asr(size: Size, shift: u32, value: u32, flags: Flags) -> Answer
     ensures { result ≡ shift_of ShiftOp.Asr size shift value flags }
 {
@@ -211,6 +215,7 @@ pub fn exec_asr(size: Size, shift: u32, value: u32, flags: Flags) -> Answer
 }
 
 // LSL Dx,Dy and LSL #<data>,Dy
+#[tactic(auto, unfolding(crate::specs::Shifts::shift_of))]
 pub fn exec_lsl(size: Size, shift: u32, value: u32, flags: Flags) -> Answer
     ensures { result ≡ shift_of ShiftOp.Lsl size shift value flags }
 {
@@ -220,6 +225,7 @@ pub fn exec_lsl(size: Size, shift: u32, value: u32, flags: Flags) -> Answer
 }
 
 // LSR Dx,Dy and LSR #<data>,Dy
+#[tactic(auto, unfolding(crate::specs::Shifts::shift_of))]
 pub fn exec_lsr(size: Size, shift: u32, value: u32, flags: Flags) -> Answer
     ensures { result ≡ shift_of ShiftOp.Lsr size shift value flags }
 {
@@ -257,7 +263,8 @@ pub fn exec_ror(size: Size, shift: u32, value: u32, flags: Flags) -> Answer
 }
 
 // ROXL Dx,Dy and ROXL #<data>,Dy. C and X are the one bit, after whole rounds too (9 on a byte). The
-// figure is of the whole count. (One function for ROXL and ROXR, which takes what `roxl` or `roxr` gives, takes 18 instructions more.)
+// figure is of the whole count. (One function for ROXL and ROXR, with the refusal in it, takes 13 to 19 instructions more.)
+#[tactic(auto, unfolding(crate::specs::Shifts::shift_of))]
 pub fn exec_roxl(size: Size, shift: u32, value: u32, flags: Flags) -> Answer
     ensures { result ≡ shift_of ShiftOp.Roxl size shift value flags }
 {
@@ -269,6 +276,7 @@ pub fn exec_roxl(size: Size, shift: u32, value: u32, flags: Flags) -> Answer
 }
 
 // ROXR Dx,Dy and ROXR #<data>,Dy
+#[tactic(auto, unfolding(crate::specs::Shifts::shift_of))]
 pub fn exec_roxr(size: Size, shift: u32, value: u32, flags: Flags) -> Answer
     ensures { result ≡ shift_of ShiftOp.Roxr size shift value flags }
 {
