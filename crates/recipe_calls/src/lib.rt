@@ -70,7 +70,8 @@ pub fn recipe_translate(text: &[u8], listing: &mut [u64], told: &mut [u64; TOLD]
     *told = translation_told(translate(text, listing));
 }
 
-// Which of the four ends it is, its trap's class or its refusal's number, and the place of either.
+// Which of the four ends it is, its trap's class or its refusal's number, and the place of either: numbers, as the C interface
+// (`listing_run`) has them.
 fn end_numbers(end: End) -> [u64; 3]
     ensures { result ≡ end_numbers end }
 {
@@ -170,7 +171,7 @@ fn rack_told(plan: Result<usize, TooManyBoxes>) -> [u64; TOLD]
 
 // Runs the first `SLOTS` steps of a listing on a rack of as many boxes as there are flags, each from its own start place and
 // with the whole budget. A box has eight words of `d`, of `a` and of `answers`, which gets what `listing_run` tells of it.
-// `told` gets the refusal number and how many boxes were run.
+// `told` gets the refusal number and how many boxes were run. Rows side by side: the C interface, over which no struct crosses.
 pub fn rack_run(
     listing: &[u64],
     d: &mut [u32],
@@ -208,7 +209,7 @@ pub fn recipe_answer(text: &[u8], out: &mut [u8]) -> usize
     answer(text, out)
 }
 
-// The flags that document 01 promises behind a recipe, as bits: all five, or X alone.
+// The flags that document 01 promises behind a recipe, as bits (the C interface, `recipe_run`): all five, or X alone.
 fn promised(codes: Option<Flags>) -> u8
     ensures { result ≡ promised_of codes }
 {

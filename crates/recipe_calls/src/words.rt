@@ -18,7 +18,8 @@ pub(crate) enum Source {
 }
 
 impl Source {
-    // A source by its kind and its number, if that is a kind.
+    // A source by its kind and its number, if that is a kind. Kinds and sizes are numbers in a step's word alone: the C interface
+    // (GRO_STEP of bindings/c/gromavelush.h).
     fn at(kind: u8, number: u8) -> Option<Source>
         ensures { result ≡ source_at kind number }
     {
