@@ -29,6 +29,22 @@ pub struct Held {
     pub out: bool,
 }
 
+// How many positions an operand is moved by.
+#[derive(Clone, Copy)]
+struct Positions {
+    count: u32,
+    ghost in_range: { count < 64 },
+}
+
+impl Positions {
+    // Document 01's count mod 64.
+    fn of(shift: u32) -> Positions
+        ensures { result.count ≡ shift % 64 }
+    {
+        Positions { count: shift % 64 }
+    }
+}
+
 // The operand with X above it, and below it. Of each pair here every line is the mirror of the other's: one function for both would choose in
 // each line, and be longer than the two.
 fn above_of(size: Size, value: u32, x: bool) -> u64
@@ -66,28 +82,25 @@ fn from_below(places: u64) -> Held
 }
 
 // Zeros come in at the bottom.
-fn lsl(size: Size, k: u32, value: u32, x: bool) -> Held
-    requires { k < 64 }
-    ensures { result ≡ moved ShiftOp.Lsl (bits_of size) k value x }
+fn lsl(size: Size, k: Positions, value: u32, x: bool) -> Held
+    ensures { result ≡ moved ShiftOp.Lsl (bits_of size) k.count value x }
 {
     let places = above_of(size, value, x);
-    from_above(size, places << k)
+    from_above(size, places << k.count)
 }
 
 // Zeros come in at the top.
-fn lsr(size: Size, k: u32, value: u32, x: bool) -> Held
-    requires { k < 64 }
-    ensures { result ≡ moved ShiftOp.Lsr (bits_of size) k value x }
+fn lsr(size: Size, k: Positions, value: u32, x: bool) -> Held
+    ensures { result ≡ moved ShiftOp.Lsr (bits_of size) k.count value x }
 {
     let places = below_of(size, value, x);
-    from_below(places >> k)
+    from_below(places >> k.count)
 }
 
 // Copies of the top bit come in at the top: below zero, that is from `least` on, as many ones as there
 // are positions.
-fn asr(size: Size, k: u32, value: u32, x: bool) -> Held
-    requires { k < 64 }
-    ensures { result ≡ moved ShiftOp.Asr (bits_of size) k value x }
+fn asr(size: Size, k: Positions, value: u32, x: bool) -> Held
+    ensures { result ≡ moved ShiftOp.Asr (bits_of size) k.count value x }
 {
     let places = below_of(size, value, x);
     let least = size.modulus();
@@ -95,9 +108,9 @@ fn asr(size: Size, k: u32, value: u32, x: bool) -> Held
     let fill = if places < least {
         0
     } else {
-        ones - (ones >> k)
+        ones - (ones >> k.count)
     };
-    from_below((places >> k) + fill)
+    from_below((places >> k.count) + fill)
 }
 
 // V of ASL, position by position as m68k walks: it is set if the top bit changes at any of them.
@@ -172,21 +185,19 @@ fn roxr(size: Size, k: u32, value: u32, x: bool) -> Held
 }
 
 // N and Z of the result; every position costs 2 clocks.
-fn shift_answer(size: Size, k: u32, res: u32, x: bool, v: bool, c: bool) -> Answer
-    requires { k < 64 }
-    ensures { result ≡ shift_answer size k res x v c }
+fn shift_answer(size: Size, k: Positions, res: u32, x: bool, v: bool, c: bool) -> Answer
+    ensures { result ≡ shift_answer size k.count res x v c }
 {
     let flags = result_flags(size, res, x, v, c);
-    let clocks = size.figure(6, 8) + 2 * k;
+    let clocks = size.figure(6, 8) + 2 * k.count;
     Answer::accepted(res, flags, clocks)
 }
 
 // A shift by 0 returns the value as it was handed in, and clears C.
-fn shifted(size: Size, k: u32, value: u32, h: Held, v: bool) -> Answer
-    requires { k < 64 }
-    ensures { result ≡ shifted size k value h v }
+fn shifted(size: Size, k: Positions, value: u32, h: Held, v: bool) -> Answer
+    ensures { result ≡ shifted size k.count value h v }
 {
-    if k == 0 {
+    if k.count == 0 {
         shift_answer(size, k, value, h.out, v, false)
     } else {
         shift_answer(size, k, h.value, h.out, v, h.out)
@@ -198,9 +209,9 @@ fn shifted(size: Size, k: u32, value: u32, h: Held, v: bool) -> Answer
 pub fn exec_asl(size: Size, shift: u32, value: u32, flags: Flags) -> Answer
     ensures { result ≡ shift_of ShiftOp.Asl size shift value flags }
 {
-    let k = shift % 64;
+    let k = Positions::of(shift);
     let h = lsl(size, k, value, flags.x);
-    let v = asl_overflow(size, k, value);
+    let v = asl_overflow(size, k.count, value);
     shifted(size, k, value, h, v)
 }
 
@@ -209,7 +220,7 @@ pub fn exec_asl(size: Size, shift: u32, value: u32, flags: Flags) -> Answer
 pub fn exec_asr(size: Size, shift: u32, value: u32, flags: Flags) -> Answer
     ensures { result ≡ shift_of ShiftOp.Asr size shift value flags }
 {
-    let k = shift % 64;
+    let k = Positions::of(shift);
     let h = asr(size, k, value, flags.x);
     shifted(size, k, value, h, false)
 }
@@ -219,7 +230,7 @@ pub fn exec_asr(size: Size, shift: u32, value: u32, flags: Flags) -> Answer
 pub fn exec_lsl(size: Size, shift: u32, value: u32, flags: Flags) -> Answer
     ensures { result ≡ shift_of ShiftOp.Lsl size shift value flags }
 {
-    let k = shift % 64;
+    let k = Positions::of(shift);
     let h = lsl(size, k, value, flags.x);
     shifted(size, k, value, h, false)
 }
@@ -229,25 +240,24 @@ pub fn exec_lsl(size: Size, shift: u32, value: u32, flags: Flags) -> Answer
 pub fn exec_lsr(size: Size, shift: u32, value: u32, flags: Flags) -> Answer
     ensures { result ≡ shift_of ShiftOp.Lsr size shift value flags }
 {
-    let k = shift % 64;
+    let k = Positions::of(shift);
     let h = lsr(size, k, value, flags.x);
     shifted(size, k, value, h, false)
 }
 
 // Of ROL and ROR C is the last bit out, by 0 clear; X is kept.
-fn rotated(size: Size, k: u32, h: Held, x: bool) -> Answer
-    requires { k < 64 }
-    ensures { result ≡ rotated size k h x }
+fn rotated(size: Size, k: Positions, h: Held, x: bool) -> Answer
+    ensures { result ≡ rotated size k.count h x }
 {
-    shift_answer(size, k, h.value, x, false, (k != 0) & h.out)
+    shift_answer(size, k, h.value, x, false, (k.count != 0) & h.out)
 }
 
 // ROL Dx,Dy and ROL #<data>,Dy. X is kept. The last bit out is the one that came in last.
 pub fn exec_rol(size: Size, shift: u32, value: u32, flags: Flags) -> Answer
     ensures { result ≡ shift_of ShiftOp.Rol size shift value flags }
 {
-    let k = shift % 64;
-    let value = rotate(size, round(size, k), value);
+    let k = Positions::of(shift);
+    let value = rotate(size, round(size, k.count), value);
     let out = value % 2 == 1;
     rotated(size, k, Held { value, out }, flags.x)
 }
@@ -256,8 +266,8 @@ pub fn exec_rol(size: Size, shift: u32, value: u32, flags: Flags) -> Answer
 pub fn exec_ror(size: Size, shift: u32, value: u32, flags: Flags) -> Answer
     ensures { result ≡ shift_of ShiftOp.Ror size shift value flags }
 {
-    let k = shift % 64;
-    let value = rotate(size, size.bits() - round(size, k), value);
+    let k = Positions::of(shift);
+    let value = rotate(size, size.bits() - round(size, k.count), value);
     let out = size.top(value);
     rotated(size, k, Held { value, out }, flags.x)
 }
@@ -271,8 +281,9 @@ pub fn exec_roxl(size: Size, shift: u32, value: u32, flags: Flags) -> Answer
     if 63 < shift {
         return Answer::refused(Verdict::BadCount, flags);
     }
+    let k = Positions { count: shift };
     let left = roxl(size, shift, value, flags.x);
-    shift_answer(size, shift, left.value, left.out, false, left.out)
+    shift_answer(size, k, left.value, left.out, false, left.out)
 }
 
 // ROXR Dx,Dy and ROXR #<data>,Dy
@@ -283,6 +294,7 @@ pub fn exec_roxr(size: Size, shift: u32, value: u32, flags: Flags) -> Answer
     if 63 < shift {
         return Answer::refused(Verdict::BadCount, flags);
     }
+    let k = Positions { count: shift };
     let right = roxr(size, shift, value, flags.x);
-    shift_answer(size, shift, right.value, right.out, false, right.out)
+    shift_answer(size, k, right.value, right.out, false, right.out)
 }

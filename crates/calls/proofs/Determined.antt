@@ -3,6 +3,7 @@
 use mathlib.Core.List.{List, [], ◌∷◌}
 use Rattle.alu.proofs.Determined.{Fixed, fixed, one_equation}
 use Rattle.calls.proofs.alu_call.Reads as alu-call
+use Rattle.calls.proofs.size_of.Reads as size-of
 
 pub determined : List Fixed
-determined = fixed alu-call.Learnt (one_equation _) ∷ []
+determined = fixed alu-call.Learnt (one_equation _) ∷ fixed size-of.Learnt (one_equation _) ∷ []

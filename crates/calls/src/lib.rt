@@ -18,7 +18,7 @@ use alu::shift_rotate::{
 use alu::types::{Answer, Checked, Flags, Size, Verdict};
 
 // A size by its number, if it names one. One `match` with a default of its own: the compiler then sees that a size and its number are the same.
-fn size_of(number: u8) -> Option<Size>
+pub fn size_of(number: u8) -> Option<Size>
     ensures { result ≡ size_of number }
 {
     match number {

@@ -12,6 +12,7 @@ use Rattle.std.specs.Prelude.{Some}
 use Rattle.std.proofs.lemmas.Nat.{le_bytes_8}
 use Rattle.alu.specs.declared.types.Size.{Size}
 use Rattle.alu.specs.declared.types.Size.TheVariants.{Byte, Word, Long}
+use Rattle.calls.specs.Packed.{size_of}
 use Rattle.step.specs.declared.forms.Register.TheVariants as Register
 use Rattle.step.specs.declared.forms.Count.TheVariants as Count
 use Rattle.step.specs.declared.forms.Form.{Form}
@@ -22,7 +23,7 @@ use Rattle.step.proofs.Operations.{stands}
 use Rattle.step.specs.Run.{array_slots}
 use Rattle.recipe_calls.specs.declared.words.Source.{Source}
 use Rattle.recipe_calls.specs.declared.words.Source.TheVariants.{Absent, Small, Data}
-use Rattle.recipe_calls.specs.Words.{byte_radix, source_at, made_of, size_at, named, step_of, first_of, step_word}
+use Rattle.recipe_calls.specs.Words.{byte_radix, source_at, made_of, named, step_of, first_of, step_word}
 use Rattle.recipe_calls.specs.Words.{size_number, source_of, kind_of, number_in, source_kind, source_number, destination_number}
 use Rattle.recipe_calls.proofs.Naming.{low}
 
@@ -47,7 +48,7 @@ source_found (Small k) = refl
 source_found (Data p) = refl
 source_found (Source.Address p) = refl
 
-size_found : (size : Size) → size_at (size_number size) ≡ Some size
+size_found : (size : Size) → size_of (size_number size) ≡ Some size
 size_found Byte = refl
 size_found Word = refl
 size_found Long = refl

@@ -2,6 +2,7 @@
 use Rattle.std.specs.Prelude.{ℕ, ◌+◌, ◌*◌, ◌/◌, ◌%◌, ◌^◌, cond, Option, Some, None, option_and_then, unwrap_or, List, map, eqb, take}
 use Rattle.alu.specs.declared.types.Size.{Size}
 use Rattle.alu.specs.declared.types.Size.TheVariants.{Byte, Word, Long}
+use Rattle.calls.specs.Packed.{size_of}
 use Rattle.step.specs.declared.forms.Register.{Register}
 use Rattle.step.specs.declared.forms.Count.{Count}
 use Rattle.step.specs.declared.forms.Form.{Form}
@@ -47,9 +48,6 @@ made_of (Bit op) (Data p) t = Some (Form.Bit op (Count.Data p) (record { 0 = t }
 made_of Chk (Data p) t = Some (Form.Chk p (record { 0 = t }))
 made_of o s t = None
 
-abbrev pub size_at : ℕ → Option Size
-size_at n = cond (eqb n 0) (Some Byte) (cond (eqb n 1) (Some Word) (cond (eqb n 2) (Some Long) None))
-
 -- what a word stands for that names no step: a CHK of a byte, which the machine refuses with 2
 abbrev pub no_step : Step
 no_step = record { size = Byte; form = Form.Chk (record { 0 = 0 }) (record { 0 = 0 }); line = 0 }
@@ -64,7 +62,7 @@ named word = do
   operation ← operation_at (byte_of 0 word)
   source ← source_at (byte_of 2 word) (byte_of 3 word)
   form ← made_of operation source (byte_of 4 word)
-  size ← size_at (byte_of 1 word)
+  size ← size_of (byte_of 1 word)
   Some (record { size = size; form = form; line = 0 })
 
 abbrev pub bare_of : (word : ℕ) → Step

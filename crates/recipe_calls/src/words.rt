@@ -1,10 +1,11 @@
 // A step as one number, laid out as `specs/Words.antt` says. An operation has the number by which `alu_call` knows it.
 // In a contract a name is the definition of specs/, not the function here.
 ghost use Rattle.std.specs.Prelude.{◌≡◌};
-ghost use Rattle.recipe_calls.specs.Words.{source_at, kind_of, number_in, of_register, of_count, made_of, size_at, no_step, named, step_of};
+ghost use Rattle.recipe_calls.specs.Words.{source_at, kind_of, number_in, of_register, of_count, made_of, no_step, named, step_of};
 ghost use Rattle.recipe_calls.specs.Words.{size_number, register_number, source_of, destination_number, step_word};
 
 use alu::types::Size;
+use calls::size_of;
 use step::forms::{Count, Form, Operation, Register, Step, operation_at, operation_of, with_line};
 use step::registers::{A, D};
 
@@ -74,17 +75,6 @@ fn form_of(operation: Operation, source: Source, destination: u8) -> Option<Form
     }
 }
 
-fn size_at(number: u8) -> Option<Size>
-    ensures { result ≡ size_at number }
-{
-    match number {
-        0 => Some(Size::Byte),
-        1 => Some(Size::Word),
-        2 => Some(Size::Long),
-        _ => None,
-    }
-}
-
 // A CHK of a byte: a step that is always refused with 2.
 pub(crate) fn no_step() -> Step
     ensures { result ≡ no_step }
@@ -105,7 +95,7 @@ fn named(word: u64) -> Option<Step>
     let operation = operation_at(operation)?;
     let source = Source::at(kind, source)?;
     let form = form_of(operation, source, destination)?;
-    let size = size_at(size)?;
+    let size = size_of(size)?;
     Some(Step {
         size,
         form,

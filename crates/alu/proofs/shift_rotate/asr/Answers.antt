@@ -29,12 +29,12 @@ law size k value x {s} {m} {fill} s-is m-is by_sign_lem =
 pub from_below-requires : goal.from_below-requires
 from_below-requires c =
     let a = c.args in
-    (law a.size a.k a.value a.x c.below_of-places.ensures.0 c.modulus-least.ensures.0
+    (law a.size a.k.count a.value a.x c.below_of-places.ensures.0 c.modulus-least.ensures.0
     (elim c.if-places-least.branch [ then-places-least w ↦ inl (w.if-places-least.true, w.fill-is) | else-places-least w ↦ inr (w.if-places-least.false, w.fill-is) ])).1
 
 pub returns : goal.returns
 returns c =
     let a = c.args in
     c.from_below.ensures ∙
-    (law a.size a.k a.value a.x c.below_of-places.ensures.0 c.modulus-least.ensures.0
+    (law a.size a.k.count a.value a.x c.below_of-places.ensures.0 c.modulus-least.ensures.0
     (elim c.if-places-least.branch [ then-places-least w ↦ inl (w.if-places-least.true, w.fill-is) | else-places-least w ↦ inr (w.if-places-least.false, w.fill-is) ])).0

@@ -14,5 +14,5 @@ returns c =
     let a = c.args in
     let n = bits_of a.size in
     let shown = ror_turns n (start n a.value a.flags.x) (bits_pos a.size) (low_lt n a.value) (a.shift % 64) in
-    rw (c.top-out.ensures, c.rotate-value.ensures, c.round.ensures.0, c.bits.ensures.0) at c.rotated.ensures ∙
+    rw (c.top-out.ensures, c.rotate-value.ensures, c.round.ensures.0, c.bits.ensures.0, c.of-k.ensures) at c.rotated.ensures ∙
     rotated_answer a.size (a.shift % 64) a.flags.x shown

@@ -15,6 +15,6 @@ returns c =
     let a = c.args in
     let n = bits_of a.size in
     let h = start n a.value a.x in
-    c.from_above.ensures ∙ ap (λ (s : ℕ). from_above n (s * 2 ^ a.k % 2 ^ 64)) c.above_of-places.ensures.0 ∙
-    from_above_64 n (above n h * 2 ^ a.k) (omega (arith, bits_le a.size)) ∙
-    sym (lsl_turns n a.k h (bits_pos a.size) (low_lt n a.value))
+    c.from_above.ensures ∙ ap (λ (s : ℕ). from_above n (s * 2 ^ a.k.count % 2 ^ 64)) c.above_of-places.ensures.0 ∙
+    from_above_64 n (above n h * 2 ^ a.k.count) (omega (arith, bits_le a.size)) ∙
+    sym (lsl_turns n a.k.count h (bits_pos a.size) (low_lt n a.value))

@@ -13,5 +13,5 @@ pub returns : goal.returns
 returns c =
     let a = c.args in
     let n = bits_of a.size in
-    c.from_below.ensures ∙ ap (λ (s : ℕ). from_below (s / 2 ^ a.k)) c.below_of-places.ensures.0 ∙
-    sym (lsr_turns n a.k (start n a.value a.x) (bits_pos a.size))
+    c.from_below.ensures ∙ ap (λ (s : ℕ). from_below (s / 2 ^ a.k.count)) c.below_of-places.ensures.0 ∙
+    sym (lsr_turns n a.k.count (start n a.value a.x) (bits_pos a.size))
