@@ -4,40 +4,38 @@ ghost use Rattle.std.specs.Prelude.{◌≤◌, length};
 use alu::types::Flags;
 use std::fmt;
 pub(crate) use text::types::{NEWLINE, TAB};
+use text::writers::Writer;
 
-// The slice, the place to write at, and where its line begins.
+// A writer, and the place where its line begins.
 #[derive(Drop)]
 pub(crate) struct Pen<'a> {
-    out: &'a mut [u8],
-    at: usize,
+    to: Writer<'a>,
     line: usize,
-    ghost begun: { line ≤ at },
-    ghost inside: { at ≤ length out.now },
+    ghost begun: { line ≤ to.at },
+    ghost inside: { to.at ≤ length to.out.now },
 }
 
 impl<'a> Pen<'a> {
     pub(crate) fn new(out: &'a mut [u8]) -> Pen<'a> {
         Pen {
-            out,
-            at: 0,
+            to: Writer { out, at: 0 },
             line: 0,
         }
     }
 
     pub(crate) fn written(&self) -> &[u8] {
-        &self.out[..self.at]
+        &self.to.out[..self.to.at]
     }
 
+    #[tactic(auto, unfolding(text::specs::Wrote::writing))]
     fn put_byte(&mut self, b: u8) {
-        if let Some(place) = self.out.get_mut(self.at) {
-            *place = b;
-            self.at += 1;
-        }
+        self.to.byte(b);
         if b == NEWLINE {
-            self.line = self.at;
+            self.line = self.to.at;
         }
     }
 
+    // By bytes, as a recipe's text has them, which need not be UTF-8.
     pub(crate) fn put(&mut self, text: &[u8]) {
         for b in text {
             self.put_byte(*b);
@@ -54,7 +52,7 @@ impl<'a> Pen<'a> {
 
     // The column that is reached, from 0.
     pub(crate) fn column(&self) -> usize {
-        self.at - self.line
+        self.to.at - self.line
     }
 
     // Blanks up to a column of the line; none where it is reached.
