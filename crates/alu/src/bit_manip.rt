@@ -41,7 +41,7 @@ fn bit_answer(w: u32, value: u32, res: u32, flags: Flags, clocks: u32) -> Answer
     Answer::accepted(res, new, clocks)
 }
 
-// The answer, or the refusal: there is no byte and no word form.
+// The answer, or the refusal: there is no byte and no word form. (CHK's `only_word` differs in what it refuses with: a `Checked`.)
 fn only_long(size: Size, flags: Flags, answer: Answer) -> Answer
     ensures { result ≡ only_long size flags answer }
 {

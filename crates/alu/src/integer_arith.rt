@@ -145,7 +145,8 @@ pub fn exec_add(size: Size, src: u32, dst: u32, flags: Flags) -> Answer
     add(size, src, dst, false).answer(4)
 }
 
-// ADDA <ea>,An. No flag is touched.
+// ADDA <ea>,An. No flag is touched. (ADDA, SUBA and their quick forms differ in the sum: with one function for what follows it, ADDA and SUBA take
+// 10 instructions more.)
 #[tactic(auto, using(crate::proofs::Whole::wrapping_sum))]
 pub fn exec_adda(size: Size, src: u32, dst: u32, flags: Flags) -> Answer
     ensures { result ≡ adda_of size src dst flags }
@@ -358,7 +359,7 @@ fn chk_figure(check: Check) -> u32
     }
 }
 
-// The answer, or the refusal: CHK has the word form alone.
+// The answer, or the refusal: CHK has the word form alone. (`only_long` of bit_manip.rt is its like over `Answer`: a refusal here has a class too.)
 fn only_word(size: Size, flags: Flags, checked: Checked) -> Checked
     ensures { result ≡ only_word size flags checked }
 {

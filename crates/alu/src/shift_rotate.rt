@@ -253,7 +253,7 @@ pub fn exec_rol(size: Size, shift: u32, value: u32, flags: Flags) -> Answer
     rotated(size, k, Held { value, out }, flags.x)
 }
 
-// ROR Dx,Dy and ROR #<data>,Dy
+// ROR Dx,Dy and ROR #<data>,Dy. (ROL and ROR differ in the way round and in the bit that is out, and in nothing else that `rotated` lacks.)
 pub fn exec_ror(size: Size, shift: u32, value: u32, flags: Flags) -> Answer
     ensures { result ≡ shift_of ShiftOp.Ror size shift value flags }
 {
