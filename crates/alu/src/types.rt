@@ -92,8 +92,8 @@ impl Size {
         }
     }
 
-    // 2 to the number of bits, and half of that: the weight of the top bit. `1 << self.bits()` takes 3 instructions more of ASR, the width's
-    // top for `half` 11 more of ADDA.
+    // 2 to the number of bits, and half of that: the weight of the top bit. `1 << self.bits()` takes 3 instructions more
+    // of ASR, and the width's top for `half` 11 more of ADDA.
     pub(crate) fn modulus(self) -> u64
         ensures { (result ≡ 2 ^ bits_of self) × (0 < result) × (result ≤ 2 ^ 32) }
     {
