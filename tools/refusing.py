@@ -13,7 +13,7 @@ import crates
 
 HEAD = re.compile(r"^( *)(?:#\[[^\]]*\]\s*)*(?:pub(?:\([^)]*\))?\s+)?(?:extern\s+\"C\"\s+)?fn\s+(\w+)", re.M)
 TOLD = re.compile(r"^(?:note: )?(?:\./)?((?:src|specs|proofs)/\S+?):(\d+):(\d+): (.*)$")
-NOT_PROVED = re.compile(r"it is not proved that ")  # what a note at a place of src/ begins with
+NOT_PROVED = re.compile(r"it is not proved that |`search` found no proof \(`invariant_of-")  # what a note at a place of src/ begins with; the second of a ghost field
 THROUGH = "was not admitted"  # what it cites is not proved: no fact of its own
 GONE = [  # the proof names what the edit took away
     "that can be named from here",
