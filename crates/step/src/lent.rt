@@ -7,7 +7,7 @@ ghost use Rattle.step.specs.Lent.{performed, held, ran_in};
 use super::forms::Step;
 use super::registers::State;
 use super::runs::{
-    Left, Ran, SLOTS, advance, all_done, begin, left_off, nowhere, place_before, ran_of, stop_at,
+    Left, Ran, advance, all_done, begin, left_off, place_before, ran_of, stop_at,
 };
 use super::steps::{Outcome, perform};
 use alu::types::Flags;
@@ -53,7 +53,7 @@ pub fn run_in(
     let line = if all_done(on) {
         0
     } else {
-        fetch(listing, place_before(on.next), nowhere()).line
+        listing.get(place_before(on.next)).map_or(0, |step| step.line)
     };
     left_off(len, start, on, line)
 }
@@ -66,22 +66,6 @@ pub fn run(listing: &[Step], state: State, start: usize, budget: u32) -> Ran
     let mut a = state.a;
     let left = run_in(listing, &mut d, &mut a, state.flags, start, budget);
     ran_of(left, d, a)
-}
-
-// A run of the first `len` steps of an array, on registers that are lent.
-pub(crate) fn run_first(
-    listing: [Step; SLOTS],
-    len: usize,
-    d: &mut [u32; 8],
-    a: &mut [u32; 8],
-    flags: Flags,
-    start: usize,
-    budget: u32,
-) -> Left
-    requires { len ≤ array_slots }
-    ensures { ran_in result d.new a.new ≡ run_of perform_of (take len listing) (held d.old a.old flags) start budget }
-{
-    run_in(&listing[..len], d, a, flags, start, budget)
 }
 
 // A run of one step.

@@ -6,11 +6,11 @@ ghost use Rattle.step.specs.Run.{ends, end_line, run_of, resumed_of};
 ghost use Rattle.step.specs.Lent.{held, ran_in};
 ghost use Rattle.step.specs.Course.{came_out, is_done, course_of, stop_of, begin_of, Advanced, end_at, stood_at, nowhere, halted_of, left_of, Ready, Halts};
 
-use super::forms::{Form, Step};
-use super::lent::{run, run_first};
-use super::registers::{D, State};
+use super::forms::Step;
+use super::lent::run;
+use super::registers::State;
 use super::steps::{Came, Fault, Outcome, Trap, perform_on};
-use alu::types::{Flags, Size};
+use alu::types::Flags;
 
 // The slots of a listing that stands in an array.
 pub const SLOTS: usize = 256;
@@ -94,17 +94,6 @@ pub(crate) fn stop_at(len: usize, start: usize, budget: u32) -> usize
         }
     } else {
         start
-    }
-}
-
-// What stands at a place that a listing has not: its line is 0.
-pub(crate) fn nowhere() -> Step
-    ensures { result ≡ nowhere }
-{
-    Step {
-        size: Size::Byte,
-        form: Form::Chk(D(0), D(0)),
-        line: 0,
     }
 }
 
@@ -253,10 +242,7 @@ pub fn run_array(
     ensures { result ≡ run_of perform_of (take count listing) state start budget }
 {
     let len = count.min(SLOTS);
-    let mut d = state.d;
-    let mut a = state.a;
-    let left = run_first(listing, len, &mut d, &mut a, state.flags, start, budget);
-    ran_of(left, d, a)
+    run(&listing[..len], state, start, budget)
 }
 
 // A run before its first step.
