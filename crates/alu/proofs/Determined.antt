@@ -46,6 +46,7 @@ use Rattle.alu.proofs.shift_rotate.exec_rol.Reads as exec-rol
 use Rattle.alu.proofs.shift_rotate.exec_ror.Reads as exec-ror
 use Rattle.alu.proofs.shift_rotate.exec_roxl.Reads as exec-roxl
 use Rattle.alu.proofs.shift_rotate.exec_roxr.Reads as exec-roxr
+use Rattle.alu.proofs.bit_manip.bit_operation.Reads as bit-operation
 use Rattle.alu.proofs.bit_manip.exec_btst.Reads as exec-btst
 use Rattle.alu.proofs.bit_manip.exec_bset.Reads as exec-bset
 use Rattle.alu.proofs.bit_manip.exec_bclr.Reads as exec-bclr
@@ -106,6 +107,7 @@ determined =
     fixed exec-ror.Learnt (one_equation _) ∷
     fixed exec-roxl.Learnt (one_equation _) ∷
     fixed exec-roxr.Learnt (one_equation _) ∷
+    fixed bit-operation.Learnt (one_equation _) ∷
     fixed exec-btst.Learnt (one_equation _) ∷
     fixed exec-bset.Learnt (one_equation _) ∷
     fixed exec-bclr.Learnt (one_equation _) ∷

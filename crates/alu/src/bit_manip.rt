@@ -1,6 +1,5 @@
 // BTST, BSET, BCLR and BCHG of a data register, on values and flags: bit_manip.rs of the crate m68k, in
-// its order. They have the long form alone. In a contract `only_long`, `bit_result` and
-// `bit_figure` are the definitions of specs/, not the functions here.
+// its order. They have the long form alone. In a contract a name is a definition of specs/, not a function here.
 ghost use Rattle.std.specs.Prelude.{◌≡◌, ℕ, ◌<◌, ◌^◌, cond, ltb};
 ghost use Rattle.alu.specs.Answers.{accepted, only_long};
 ghost use Rattle.alu.specs.Bitops.{bit_flags, bit_result, bit_figure, bitop_of};
@@ -77,7 +76,8 @@ fn bit_figure(op: BitOp, k: u32) -> u32
     }
 }
 
-fn bit_operation(op: BitOp, size: Size, number: u32, value: u32, flags: Flags) -> Answer
+// Any of the four. The number of the bit is taken mod 32.
+pub fn bit_operation(op: BitOp, size: Size, number: u32, value: u32, flags: Flags) -> Answer
     ensures { result ≡ bitop_of op size number value flags }
 {
     let k = number % 32;

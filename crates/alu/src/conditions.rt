@@ -50,24 +50,7 @@ impl From<Condition> for u8 {
     ghost from_gives = { λ condition number. number ≡ condition_number condition };
 
     fn from(condition: Condition) -> u8 {
-        match condition {
-            Condition::T => 0,
-            Condition::F => 1,
-            Condition::Hi => 2,
-            Condition::Ls => 3,
-            Condition::Cc => 4,
-            Condition::Cs => 5,
-            Condition::Ne => 6,
-            Condition::Eq => 7,
-            Condition::Vc => 8,
-            Condition::Vs => 9,
-            Condition::Pl => 10,
-            Condition::Mi => 11,
-            Condition::Ge => 12,
-            Condition::Lt => 13,
-            Condition::Gt => 14,
-            Condition::Le => 15,
-        }
+        condition as u8
     }
 }
 

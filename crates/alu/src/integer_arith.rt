@@ -1,5 +1,6 @@
 // The integer arithmetic of registers, on values and flags: integer_arith.rs of the crate m68k, in its
-// order. In a contract `raised` and `refigured` are the definitions of specs/, not the functions.
+// order. In a contract a name is a definition of specs/, not a function here. Size, source, destination and flags come one by one, as
+// m68k's functions take them: compare/ and the packages name these.
 //
 // Bits of an operand above its size do not count, but: an address register is used whole, and so is the
 // source of ADDQ and SUBQ on one; EXT word keeps the upper 16 bits; CMP, CMPA and CHK hand the
@@ -68,11 +69,11 @@ fn add(size: Size, src: u32, dst: u32, x: bool) -> Sum
     let mask = w.mask;
     let s = src & mask;
     let d = dst & mask;
-    let whole = d as u64 + s as u64 + u64::from(x);
+    let whole = u64::from(d) + u64::from(s) + u64::from(x);
     let long = (whole % 0x1_0000_0000) as u32;
     let result = long & mask;
     let overflow = (s ^ result) & (d ^ result);
-    let carry = (mask as u64) < whole;
+    let carry = u64::from(mask) < whole;
     sum_of(w, result, overflow, carry)
 }
 
@@ -85,12 +86,12 @@ fn subtract(size: Size, src: u32, dst: u32, x: bool) -> Sum
     let mask = w.mask;
     let s = src & mask;
     let d = dst & mask;
-    let less = s as u64 + u64::from(x);
-    let whole = 0x1_0000_0000 + d as u64 - less;
+    let less = u64::from(s) + u64::from(x);
+    let whole = 0x1_0000_0000 + u64::from(d) - less;
     let long = (whole % 0x1_0000_0000) as u32;
     let result = long & mask;
     let overflow = (s ^ d) & (result ^ d);
-    let borrow = (d as u64) < less;
+    let borrow = u64::from(d) < less;
     sum_of(w, result, overflow, borrow)
 }
 
@@ -99,7 +100,7 @@ fn subtract(size: Size, src: u32, dst: u32, x: bool) -> Sum
 fn raised(size: Size, x: u32) -> u32
     ensures { result ≡ raised (bits_of size) x }
 {
-    size.masked(x as u64 + size.half())
+    size.masked(u64::from(x) + size.half())
 }
 
 // The low bits of x, as many as `from` has, sign-extended to as many as `to` has: the signed casts of
@@ -108,7 +109,7 @@ fn extend(from: Size, to: Size, x: u32) -> u32
     requires { bits_of from ≤ bits_of to }
     ensures { result ≡ extended (bits_of from) (bits_of to) x }
 {
-    to.masked(0x1_0000_0000 + raised(from, x) as u64 - from.half())
+    to.masked(0x1_0000_0000 + u64::from(raised(from, x)) - from.half())
 }
 
 // What ADDA, SUBA and CMPA make of their source: a word is sign-extended, a long stays.
@@ -264,7 +265,7 @@ pub fn exec_negx(size: Size, dst: u32, flags: Flags) -> Answer
 pub fn exec_not(size: Size, dst: u32, flags: Flags) -> Answer
     ensures { result ≡ not_of size dst flags }
 {
-    let result = size.masked(!dst as u64);
+    let result = size.masked(u64::from(!dst));
     let new = set_logic_flags(size, result, flags);
     Answer::accepted(result, new, size.figure(4, 6))
 }

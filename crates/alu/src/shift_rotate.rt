@@ -1,5 +1,5 @@
 // ASL, ASR, LSL, LSR, ROL, ROR, ROXL and ROXR of a data register, on values and flags: shift_rotate.rs
-// of the crate m68k, in its order. In a contract `shifted` and `rotated` are the definitions of specs/, not the functions here.
+// of the crate m68k, in its order. In a contract a name is a definition of specs/, not a function here.
 //
 // `shift` is document 01's count. The code puts X beside the operand and moves bits + 1 places at once in 64 bits. m68k's cases
 // for counts at and above the size fall away: what stands in X's place at the end is the last bit out.
@@ -50,14 +50,14 @@ impl Positions {
 fn above_of(size: Size, value: u32, x: bool) -> u64
     ensures { (result ≡ above (bits_of size) (start (bits_of size) value x)) × (result < 2 ^ 33) }
 {
-    let operand = size.masked(value as u64) as u64;
+    let operand = u64::from(size.masked(u64::from(value)));
     operand + u64::from(x) * size.modulus()
 }
 
 fn below_of(size: Size, value: u32, x: bool) -> u64
     ensures { (result ≡ below (start (bits_of size) value x)) × (result < 2 ^ 33) }
 {
-    let operand = size.masked(value as u64) as u64;
+    let operand = u64::from(size.masked(u64::from(value)));
     2 * operand + u64::from(x)
 }
 
@@ -137,24 +137,15 @@ fn turned_left(places: u32, j: u32, ring: u64) -> u64
     (ring << j) % (1 << places) + (ring >> (places - j))
 }
 
-// The count that is left after whole rounds of bits, and of bits + 1. A constant in each arm: there is no division.
-fn round(size: Size, k: u32) -> u32
-    ensures { (result ≡ k % bits_of size) × (result < bits_of size) }
+// The count that is left after whole rounds of bits and MORE places. A constant in each arm: there is no division.
+fn round<const MORE: u32>(size: Size, k: u32) -> u32
+    requires { MORE ≤ 1 }
+    ensures { (result ≡ k % (bits_of size + MORE)) × (result < bits_of size + MORE) }
 {
     match size {
-        Size::Byte => k % 8,
-        Size::Word => k % 16,
-        Size::Long => k % 32,
-    }
-}
-
-fn round_x(size: Size, k: u32) -> u32
-    ensures { (result ≡ k % (bits_of size + 1)) × (result < bits_of size + 1) }
-{
-    match size {
-        Size::Byte => k % 9,
-        Size::Word => k % 17,
-        Size::Long => k % 33,
+        Size::Byte => k % (8 + MORE),
+        Size::Word => k % (16 + MORE),
+        Size::Long => k % (32 + MORE),
     }
 }
 
@@ -163,7 +154,7 @@ fn rotate(size: Size, j: u32, value: u32) -> u32
     requires { j ≤ bits_of size }
     ensures { result ≡ turned_left (bits_of size) j (low (bits_of size) value) }
 {
-    let ring = size.masked(value as u64) as u64;
+    let ring = u64::from(size.masked(u64::from(value)));
     turned_left(size.bits(), j, ring) as u32
 }
 
@@ -173,7 +164,7 @@ fn roxl(size: Size, k: u32, value: u32, x: bool) -> Held
 {
     let ring = above_of(size, value, x);
     let places = size.bits() + 1;
-    from_above(size, turned_left(places, round_x(size, k), ring))
+    from_above(size, turned_left(places, round::<1>(size, k), ring))
 }
 
 fn roxr(size: Size, k: u32, value: u32, x: bool) -> Held
@@ -181,7 +172,7 @@ fn roxr(size: Size, k: u32, value: u32, x: bool) -> Held
 {
     let ring = below_of(size, value, x);
     let places = size.bits() + 1;
-    from_below(turned_left(places, places - round_x(size, k), ring))
+    from_below(turned_left(places, places - round::<1>(size, k), ring))
 }
 
 // N and Z of the result; every position costs 2 clocks.
@@ -257,7 +248,7 @@ pub fn exec_rol(size: Size, shift: u32, value: u32, flags: Flags) -> Answer
     ensures { result ≡ shift_of ShiftOp.Rol size shift value flags }
 {
     let k = Positions::of(shift);
-    let value = rotate(size, round(size, k.count), value);
+    let value = rotate(size, round::<0>(size, k.count), value);
     let out = value % 2 == 1;
     rotated(size, k, Held { value, out }, flags.x)
 }
@@ -267,7 +258,7 @@ pub fn exec_ror(size: Size, shift: u32, value: u32, flags: Flags) -> Answer
     ensures { result ≡ shift_of ShiftOp.Ror size shift value flags }
 {
     let k = Positions::of(shift);
-    let value = rotate(size, size.bits() - round(size, k.count), value);
+    let value = rotate(size, size.bits() - round::<0>(size, k.count), value);
     let out = size.top(value);
     rotated(size, k, Held { value, out }, flags.x)
 }

@@ -1,5 +1,5 @@
-// Sizes, flags, verdicts and answers, and what more than one module takes. In a contract `result_flags` is the definition of specs/, not the
-// function here.
+// Sizes, flags, verdicts and answers, and what more than one module takes. In a contract a name is a definition
+// of specs/, not a function here.
 ghost use Rattle.std.specs.Prelude.{◌≡◌, ℕ, ◌-◌, ◌*◌, ◌^◌, ◌<◌, ◌≤◌};
 ghost use Rattle.alu.specs.Bits.{bits_of, low, top, digit, width_of};
 ghost use Rattle.alu.specs.ConditionCodes.{result_flags, flags_of, ccr_of};
@@ -23,12 +23,13 @@ pub struct Flags {
     pub c: bool,
 }
 
-// Whether an operation was accepted. BadCount and NoSuchSize are document 01's refusals 1 and 2.
+// Whether an operation was accepted, with document 01's number of a refusal, 0 for none.
+// No `Result`: document 01 gives a refused operation the result 0, the figure 0, the incoming flags and, for CHK, Pass.
 #[derive(Clone, Copy, PartialEq, Eq)]
 pub enum Verdict {
-    Accepted,
-    BadCount,
-    NoSuchSize,
+    Accepted = 0,
+    BadCount = 1,
+    NoSuchSize = 2,
 }
 
 // What an operation hands back. `clocks` is document 01's clock figure.
@@ -41,13 +42,13 @@ pub struct Answer {
 }
 
 // CHK's class. Over: the value is above the bound. Below: it is below 0. Short: it is below 0 too, and
-// value - bound overflows, which the crate m68k traps on the short path of Over. These three are traps.
+// value - bound overflows, which the crate m68k traps on the short path of Over. These three are traps. The numbers are ours, 0 where it doesn't trap.
 #[derive(Clone, Copy, PartialEq, Eq)]
 pub enum Check {
-    Pass,
-    Over,
-    Short,
-    Below,
+    Pass = 0,
+    Over = 1,
+    Short = 2,
+    Below = 3,
 }
 
 // What CHK hands back.
@@ -57,30 +58,19 @@ pub struct Checked {
     pub answer: Answer,
 }
 
-// Document 01's number of a refusal, 0 for none.
 impl From<Verdict> for u32 {
     ghost from_gives = { λ verdict number. number ≡ number_of verdict };
 
     fn from(verdict: Verdict) -> u32 {
-        match verdict {
-            Verdict::Accepted => 0,
-            Verdict::BadCount => 1,
-            Verdict::NoSuchSize => 2,
-        }
+        verdict as u32
     }
 }
 
-// A number for each class of CHK, 0 where it doesn't trap.
 impl From<Check> for u32 {
     ghost from_gives = { λ check class. class ≡ class_of check };
 
     fn from(check: Check) -> u32 {
-        match check {
-            Check::Pass => 0,
-            Check::Over => 1,
-            Check::Short => 2,
-            Check::Below => 3,
-        }
+        check as u32
     }
 }
 

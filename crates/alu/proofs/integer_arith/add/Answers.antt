@@ -17,5 +17,5 @@ returns c =
     let n = bits_of a.size in
     let w-is = c.width-w.ensures in
     let whole = low n a.dst + low n a.src + digit a.x in
-    (rw (w-is, and_mask a.src n, and_mask a.dst n, c.from.ensures, low_mask n whole (bits_le a.size)) at (c.sum_of.ensures n w-is)) (low_lt n whole) ∙
+    (rw (c.from.ensures, c.from-2.ensures, c.from-3.ensures, c.from-4.ensures, w-is, and_mask a.src n, and_mask a.dst n, low_mask n whole (bits_le a.size)) at (c.sum_of.ensures n w-is)) (low_lt n whole) ∙
     add_worked n (bits_pos a.size) a.src a.dst a.x

@@ -9,4 +9,4 @@ pub returns : goal.returns
 returns c =
     let start = c.before.before.before in
     let a = start.args in
-    rw (← (extended_whole (bits_of a.from) (bits_of a.to) (bits_pos a.from) start.requires a.x (bits_le a.to)), ← c.half.ensures.0, ← c.raised.ensures) c.masked.ensures
+    rw (← (extended_whole (bits_of a.from) (bits_of a.to) (bits_pos a.from) start.requires a.x (bits_le a.to)), ← c.half.ensures.0, ← c.raised.ensures, ← c.from.ensures) c.masked.ensures

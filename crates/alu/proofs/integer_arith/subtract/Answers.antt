@@ -16,5 +16,5 @@ returns c =
     let n = bits_of a.size in
     let w-is = c.width-w.ensures in
     let whole = 2 ^ 32 + low n a.dst - (low n a.src + digit a.x) in
-    (rw (w-is, and_mask a.src n, and_mask a.dst n, c.from.ensures, low_mask n whole (bits_le a.size), difference_masked a.size a.src a.dst a.x) at (c.sum_of.ensures n w-is)) (difference_lt n a.src a.dst a.x) ∙
+    (rw (c.from.ensures, c.from-2.ensures, c.from-3.ensures, c.from-4.ensures, w-is, and_mask a.src n, and_mask a.dst n, low_mask n whole (bits_le a.size), difference_masked a.size a.src a.dst a.x) at (c.sum_of.ensures n w-is)) (difference_lt n a.src a.dst a.x) ∙
     sub_worked n (bits_pos a.size) a.src a.dst a.x

@@ -1,7 +1,8 @@
 -- `exec_ror` meets its contract: the top bit of the ring is the last one out.
 -- Assumes nothing.
-use mathlib.Core.Path.{◌∙◌}
-use Prim.Native.Nat.{◌%◌}
+use mathlib.Core.Path.{◌≡◌, ◌∙◌}
+use Prim.Native.Nat.{◌+◌, ◌%◌}
+use native.Mathlib.Omega.{arith}
 use Rattle.alu.specs.Bits.{bits_of}
 use Rattle.alu.specs.Shifts.{shift_of, start}
 use Rattle.alu.proofs.Bounds.{bits_pos, low_lt}
@@ -13,6 +14,7 @@ unfolding shift_of
 returns c =
     let a = c.args in
     let n = bits_of a.size in
+    let whole : n + 0 ≡ n = omega arith in
     let shown = ror_turns n (start n a.value a.flags.x) (bits_pos a.size) (low_lt n a.value) (a.shift % 64) in
-    rw (c.top-out.ensures, c.rotate-value.ensures, c.round.ensures.0, c.bits.ensures.0, c.of-k.ensures) at c.rotated.ensures ∙
+    rw (c.top-out.ensures, c.rotate-value.ensures, c.round.ensures.0, whole, c.bits.ensures.0, c.of-k.ensures) at c.rotated.ensures ∙
     rotated_answer a.size (a.shift % 64) a.flags.x shown

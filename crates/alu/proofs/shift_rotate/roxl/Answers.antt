@@ -12,5 +12,5 @@ pub returns : goal.returns
 returns c =
     let a = c.args in
     let n = bits_of a.size in
-    let ring = rw (c.bits-places.ensures.0, c.round_x.ensures.0, c.above_of-ring.ensures.0) at c.turned_left.ensures.0 in
+    let ring = rw (c.bits-places.ensures.0, c.round.ensures.0, c.above_of-ring.ensures.0) at c.turned_left.ensures.0 in
     c.from_above.ensures ∙ ap (from_above n) ring ∙ sym (roxl_turns n (start n a.value a.x) (bits_pos a.size) (low_lt n a.value) a.k)
