@@ -4,7 +4,6 @@
 ghost use Rattle.std.specs.Prelude.{◌≡◌, ℕ, ◌<◌, ◌&&◌, List, slice_set};
 ghost use Rattle.alu.specs.Answers.{refigured, figure};
 ghost use Rattle.alu.specs.Shifts.{shift_of};
-ghost use Rattle.alu.specs.Bitops.{bitop_of};
 ghost use Rattle.step.specs.declared.forms.Form.TheVariants as Form;
 ghost use Rattle.step.specs.declared.forms.Register.TheVariants as Register;
 ghost use Rattle.step.specs.declared.steps.Came.TheVariants as How;
@@ -19,7 +18,7 @@ use super::forms::{AddressOp, Count, Form, OneOp, QuickOp, Register, Step, TwoOp
 use super::lent::run_one;
 use super::registers::{A, D, State, merged, read, write};
 use super::runs::End;
-use alu::bit_manip::{BitOp, exec_bchg, exec_bclr, exec_bset, exec_btst};
+use alu::bit_manip::{BitOp, bit_operation};
 use alu::integer_arith::{
     exec_add, exec_adda, exec_addq, exec_addq_address, exec_addx, exec_chk, exec_clr, exec_cmp,
     exec_cmpa, exec_ext, exec_neg, exec_negx, exec_not, exec_sub, exec_suba, exec_subq,
@@ -181,17 +180,6 @@ fn shift(op: ShiftOp, size: Size, count: u32, dst: u32, flags: Flags) -> Answer
         ShiftOp::Ror => exec_ror(size, count, dst, flags),
         ShiftOp::Roxl => exec_roxl(size, count, dst, flags),
         ShiftOp::Roxr => exec_roxr(size, count, dst, flags),
-    }
-}
-
-fn bit(op: BitOp, size: Size, number: u32, dst: u32, flags: Flags) -> Answer
-    ensures { result ≡ bitop_of op size number dst flags }
-{
-    match op {
-        BitOp::Btst => exec_btst(size, number, dst, flags),
-        BitOp::Bset => exec_bset(size, number, dst, flags),
-        BitOp::Bclr => exec_bclr(size, number, dst, flags),
-        BitOp::Bchg => exec_bchg(size, number, dst, flags),
     }
 }
 
@@ -447,7 +435,7 @@ fn step_bit(d: &mut [u32; 8], flags: Flags, size: Size, op: BitOp, c: Count, t: 
         if size == Size::Long {
             if let Some(number) = counted::<0, 31, 32>(d, c) {
                 let dst = read(d, t.0);
-                let answer = bit(op, size, number, dst, flags);
+                let answer = bit_operation(op, size, number, dst, flags);
                 let clocks = figure_of_bit(op, number, answer.clocks);
                 to_data(d, size, t, dst, Answer { clocks, ..answer })
             } else {
