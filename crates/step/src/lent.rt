@@ -12,7 +12,7 @@ use super::runs::{
 use super::steps::{Outcome, perform};
 use alu::types::Flags;
 
-// What one step says beside the state that it leaves.
+// What one step says beside the state that it leaves; see `Performed`.
 #[derive(Clone, Copy)]
 pub struct Told {
     pub outcome: Outcome,
@@ -32,8 +32,8 @@ pub fn perform_in(state: &mut State, step: Step) -> Told
 }
 
 // A run on registers that are lent, and changed there: the one loop, which every other way of running calls. A trap's or a
-// refusal's line is read behind it; before a start past the end no step stands either, and the line is 0. The two rows stay apart
-// (a `&mut State` for both, tried as steps.rt says: 61.7).
+// refusal's line is read behind it; before a start past the end no step stands either, and the line is 0. Tried as steps.rt says: a
+// `&mut State` for the two rows, 61.7; `for step in &listing[start..stop]` with a `break`, and no `going`: 68.1.
 pub fn run_in(
     listing: &[Step],
     d: &mut [u32; 8],

@@ -53,7 +53,8 @@ pub enum Outcome {
     Refused(Fault),
 }
 
-// What a step hands back: its outcome, the registers and flags after it, its clock figure.
+// What a step hands back: its outcome, the registers and flags after it, its clock figure. `Told` leaves out the state, which is
+// lent, and `Acted` all registers, in the loop: each is flat, with a layout that was counted (`Came`) or that compare calls by.
 #[derive(Clone, Copy)]
 pub struct Performed {
     pub outcome: Outcome,
@@ -140,6 +141,8 @@ fn within(least: u8, most: u8, k: u8) -> bool
     least <= k && k <= most
 }
 
+// Here and in the next three an operation is a value, since a listing and a word of C carry it; `rt ci` lets no function hand out
+// a closure or a pointer for it.
 fn on_address(op: AddressOp, size: Size, src: u32, dst: u32, flags: Flags) -> Answer
     ensures { result ≡ on_address_of op size src dst flags }
 {
