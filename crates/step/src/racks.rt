@@ -68,7 +68,7 @@ pub fn rack(
 ) -> Result<usize, TooManyBoxes>
     ensures { left result sets.new answers.new ≡ rack_of perform_of listing.now sets.old starts.now budget answers.old }
 {
-    // By index: of a `zip` of two `iter_mut` no proof knows what stands behind it when it is over. (Of one alone it does: `lay_line` of recipes)
+    // By index: no proof knows what stands behind a `zip` of two `iter_mut` (of one alone it does: `lay_line` of recipes).
     let boxes = plan(sets.len(), starts.len(), answers.len())?;
     for i in 0..boxes {
         let ran = run(listing, sets[i], starts[i], budget);

@@ -29,21 +29,21 @@ use alu::shift_rotate::{
 };
 use alu::types::{Answer, Check, Flags, Size};
 
-// Why a step, or a run, is refused: document 01's numbers 1, 2, 3 and 10.
+// Why a step, or a run, is refused, with document 01's numbers.
 #[derive(Clone, Copy)]
 pub enum Fault {
-    BadSmall,
-    NoSuchSize,
-    NoSuchRegister,
-    StartPastEnd,
+    BadSmall = 1,
+    NoSuchSize = 2,
+    NoSuchRegister = 3,
+    StartPastEnd = 10,
 }
 
 // The class of a CHK that traps.
 #[derive(Clone, Copy)]
 pub enum Trap {
-    Over,
-    Short,
-    Below,
+    Over = 1,
+    Short = 2,
+    Below = 3,
 }
 
 #[derive(Clone, Copy)]
@@ -88,12 +88,7 @@ impl From<Fault> for u32 {
     ghost from_gives = { λ fault number. number ≡ number_of fault };
 
     fn from(fault: Fault) -> u32 {
-        match fault {
-            Fault::BadSmall => 1,
-            Fault::NoSuchSize => 2,
-            Fault::NoSuchRegister => 3,
-            Fault::StartPastEnd => 10,
-        }
+        fault as u32
     }
 }
 
@@ -102,11 +97,7 @@ impl From<Trap> for u32 {
     ghost from_gives = { λ trap number. number ≡ class_of trap };
 
     fn from(trap: Trap) -> u32 {
-        match trap {
-            Trap::Over => 1,
-            Trap::Short => 2,
-            Trap::Below => 3,
-        }
+        trap as u32
     }
 }
 
