@@ -9,7 +9,7 @@ use native.Mathlib.Nat.{div-div-eq-div-mul, zero-div}
 use borrow.Author.Tests.{eq-eqb, ne_eqb}
 use lib.Dec.{eqb, lit<}
 use lib.ListN.{length, get_or}
-use Rattle.std.specs.Prelude.{Some}
+use Rattle.std.specs.Prelude.{Ok}
 use Rattle.alu.specs.declared.types.Flags.{Flags}
 use Rattle.alu.specs.declared.conditions.Condition.{Condition}
 use Rattle.alu.specs.declared.conditions.Condition.TheVariants.{T, F, Hi, Ls, Cc, Cs, Ne, Eq, Vc, Vs, Pl, Mi, Ge, Lt, Gt, Le}
@@ -125,7 +125,7 @@ table_holds k f =
     ∙ bit_of (values_of (formula k)) (ccr_of f % 16) ∙ at_setting (formula k) f
 
 -- the number of a condition is a place of the table, and the row there is the condition's
-pub condition_places : (k : Condition) → (condition_number k < length conditions) × (condition_at (condition_number k) ≡ Some k)
+pub condition_places : (k : Condition) → (condition_number k < length conditions) × (condition_at (condition_number k) ≡ Ok k)
 condition_places T = (lit< tt, refl)
 condition_places F = (lit< tt, refl)
 condition_places Hi = (lit< tt, refl)

@@ -52,7 +52,7 @@ use Rattle.alu.proofs.bit_manip.exec_bset.Reads as exec-bset
 use Rattle.alu.proofs.bit_manip.exec_bclr.Reads as exec-bclr
 use Rattle.alu.proofs.bit_manip.exec_bchg.Reads as exec-bchg
 use Rattle.alu.proofs.conditions.U8FromCondition.from.Reads as u8-from-condition
-use Rattle.alu.proofs.conditions.condition_at.Reads as condition-at
+use Rattle.alu.proofs.conditions.ConditionTryFromU8.try_from.Reads as condition-try-from-u8
 use Rattle.alu.proofs.conditions.holds.Reads as condition-holds
 
 -- `met` is what a contract tells of the arguments, the result and the parameters at exit
@@ -113,5 +113,5 @@ determined =
     fixed exec-bclr.Learnt (one_equation _) ∷
     fixed exec-bchg.Learnt (one_equation _) ∷
     fixed u8-from-condition.Learnt (one_equation _) ∷
-    fixed condition-at.Learnt (one_equation _) ∷
+    fixed condition-try-from-u8.Learnt (one_equation _) ∷
     fixed condition-holds.Learnt (one_equation _) ∷ []

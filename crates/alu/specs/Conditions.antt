@@ -1,9 +1,10 @@
 -- The sixteen conditions of the Manual's conditional tests: document 02, item 5. They are one list of rows, and the place of a row is the number of its
 -- condition (`condition_places` of proofs/ConditionTable). Assumes nothing.
-use Rattle.std.specs.Prelude.{ℕ, Bool, true, false, not, ◌&&◌, ◌||◌, List, [], ◌∷◌, map, get_or, Option, Some, None}
+use Rattle.std.specs.Prelude.{ℕ, Bool, true, false, not, ◌&&◌, ◌||◌, List, [], ◌∷◌, map, get_or, Result, Ok, Err}
 use Prim.Native.String.{String}
 use Rattle.alu.specs.declared.types.Flags.{Flags}
 use Rattle.alu.specs.declared.conditions.Condition.{Condition}
+use Rattle.alu.specs.declared.conditions.NoSuchCondition.{NoSuchCondition}
 use Rattle.alu.specs.declared.conditions.Condition.TheVariants.{T, F, Hi, Ls, Cc, Cs, Ne, Eq, Vc, Vs, Pl, Mi, Ge, Lt, Gt, Le}
 
 -- the Manual's formulas
@@ -58,8 +59,8 @@ conditions =
     condition_row Le "LE" ∷ []
 
 -- the condition of a number, if there is a row of that place
-abbrev pub condition_at : ℕ → Option Condition
-condition_at n = get_or (map (λ (r : ConditionRow). Some r.condition) conditions) n None
+abbrev pub condition_at : ℕ → Result Condition NoSuchCondition
+condition_at n = get_or (map (λ (r : ConditionRow). Ok r.condition) conditions) n (Err (record { number = n }))
 
 -- the place of a condition's row
 abbrev pub condition_number : Condition → ℕ

@@ -41,7 +41,7 @@ fn bit_answer(w: u32, value: u32, res: u32, flags: Flags, clocks: u32) -> Answer
     Answer::accepted(res, new, clocks)
 }
 
-// The answer, or the refusal: there is no byte and no word form.
+// The answer, or the refusal: there is no byte and no word form. (CHK's `only_word` is no twin: it refuses with a class too.)
 fn only_long(size: Size, flags: Flags, answer: Answer) -> Answer
     ensures { result ≡ only_long size flags answer }
 {
@@ -76,7 +76,7 @@ fn bit_figure(op: BitOp, k: u32) -> u32
     }
 }
 
-// Any of the four. The number of the bit is taken mod 32.
+// Any of the four that follow under m68k's names. The number of the bit is taken mod 32.
 pub fn bit_operation(op: BitOp, size: Size, number: u32, value: u32, flags: Flags) -> Answer
     ensures { result ≡ bitop_of op size number value flags }
 {

@@ -54,28 +54,38 @@ impl From<Condition> for u8 {
     }
 }
 
-// The condition of a number, if it names one.
-pub fn condition_at(number: u8) -> Option<Condition>
-    ensures { result ≡ condition_at number }
-{
-    match number {
-        0 => Some(Condition::T),
-        1 => Some(Condition::F),
-        2 => Some(Condition::Hi),
-        3 => Some(Condition::Ls),
-        4 => Some(Condition::Cc),
-        5 => Some(Condition::Cs),
-        6 => Some(Condition::Ne),
-        7 => Some(Condition::Eq),
-        8 => Some(Condition::Vc),
-        9 => Some(Condition::Vs),
-        10 => Some(Condition::Pl),
-        11 => Some(Condition::Mi),
-        12 => Some(Condition::Ge),
-        13 => Some(Condition::Lt),
-        14 => Some(Condition::Gt),
-        15 => Some(Condition::Le),
-        _ => None,
+// A number that names no condition.
+#[derive(Clone, Copy, PartialEq, Eq)]
+pub struct NoSuchCondition {
+    pub number: u8,
+}
+
+// The condition of a number.
+impl TryFrom<u8> for Condition {
+    type Error = NoSuchCondition;
+
+    ghost try_from_gives = { λ number found. found ≡ condition_at number };
+
+    fn try_from(number: u8) -> Result<Condition, NoSuchCondition> {
+        match number {
+            0 => Ok(Condition::T),
+            1 => Ok(Condition::F),
+            2 => Ok(Condition::Hi),
+            3 => Ok(Condition::Ls),
+            4 => Ok(Condition::Cc),
+            5 => Ok(Condition::Cs),
+            6 => Ok(Condition::Ne),
+            7 => Ok(Condition::Eq),
+            8 => Ok(Condition::Vc),
+            9 => Ok(Condition::Vs),
+            10 => Ok(Condition::Pl),
+            11 => Ok(Condition::Mi),
+            12 => Ok(Condition::Ge),
+            13 => Ok(Condition::Lt),
+            14 => Ok(Condition::Gt),
+            15 => Ok(Condition::Le),
+            _ => Err(NoSuchCondition { number }),
+        }
     }
 }
 

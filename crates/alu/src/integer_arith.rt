@@ -1,6 +1,6 @@
 // The integer arithmetic of registers, on values and flags: integer_arith.rs of the crate m68k, in its
-// order. In a contract a name is a definition of specs/, not a function here. Size, source, destination and flags come one by one, as
-// m68k's functions take them: compare/ and the packages name these.
+// order. In a contract a name is a definition of specs/, not a function here. Size, source, destination and
+// flags come one by one, as the crate's own functions take them: both texts can be read side by side.
 //
 // Bits of an operand above its size do not count, but: an address register is used whole, and so is the
 // source of ADDQ and SUBQ on one; EXT word keeps the upper 16 bits; CMP, CMPA and CHK hand the
@@ -78,7 +78,8 @@ fn add(size: Size, src: u32, dst: u32, x: bool) -> Sum
 }
 
 // dst - src - x in the size's bits; 2^32 keeps it from going below 0. It is the addition src + result = dst, so V is as
-// above with result and dst exchanged. C: a borrow. (With `add` it has the masks alone in common: result, V and C are other formulas.)
+// above with result and dst exchanged. C: a borrow. (With `add` it has the masks alone in common: result, V and C
+// are other formulas.)
 fn subtract(size: Size, src: u32, dst: u32, x: bool) -> Sum
     ensures { result ≡ subtracted (bits_of size) src dst x }
 {
@@ -120,7 +121,8 @@ fn address_source(size: Size, src: u32) -> u32
 }
 
 // The answer, or the refusal of an operation that has no byte form.
-// Three arms: with `size == Size::Byte`, or one arm for Word and Long, a mixed step takes 62.4 instructions and not 60.0.
+// Three arms: with `size == Size::Byte`, or one arm for Word and Long, a mixed step takes 62.4 instructions and not
+// 60.0, both counted before any proof.
 fn unless_byte(size: Size, flags: Flags, answer: Answer) -> Answer
     ensures { result ≡ unless_byte size flags answer }
 {
@@ -145,7 +147,8 @@ pub fn exec_add(size: Size, src: u32, dst: u32, flags: Flags) -> Answer
     add(size, src, dst, false).answer(4)
 }
 
-// ADDA <ea>,An. No flag is touched.
+// ADDA <ea>,An. No flag is touched. (ADDA, SUBA, ADDQ and SUBQ on An differ in the sum: with one function for the
+// rest of the four, ADDA and SUBA take 10 instructions more.)
 #[tactic(auto, using(crate::proofs::Whole::wrapping_sum))]
 pub fn exec_adda(size: Size, src: u32, dst: u32, flags: Flags) -> Answer
     ensures { result ≡ adda_of size src dst flags }
@@ -358,7 +361,8 @@ fn chk_figure(check: Check) -> u32
     }
 }
 
-// The answer, or the refusal: CHK has the word form alone.
+// The answer, or the refusal: CHK has the word form alone. (`only_long` of bit_manip.rt is no twin: a refusal here
+// has a class too.)
 fn only_word(size: Size, flags: Flags, checked: Checked) -> Checked
     ensures { result ≡ only_word size flags checked }
 {

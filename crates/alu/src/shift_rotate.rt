@@ -45,8 +45,8 @@ impl Positions {
     }
 }
 
-// The operand with X above it, and below it. Of each pair here every line is the mirror of the other's: one function for both would choose in
-// each line, and be longer than the two.
+// The operand with X above it, and below it. Of each pair here every line is the mirror of the other's: one function
+// for both would choose in each line, and be longer than the two.
 fn above_of(size: Size, value: u32, x: bool) -> u64
     ensures { (result ≡ above (bits_of size) (start (bits_of size) value x)) × (result < 2 ^ 33) }
 {
@@ -206,7 +206,8 @@ pub fn exec_asl(size: Size, shift: u32, value: u32, flags: Flags) -> Answer
     shifted(size, k, value, h, v)
 }
 
-// ASR Dx,Dy and ASR #<data>,Dy. (ASR, LSL and LSR differ in the one call: a parameter for it, with what it promises, is longer than they are.)
+// ASR Dx,Dy and ASR #<data>,Dy. (ASR, LSL and LSR differ in the one call: a parameter for it, with what it promises, is
+// longer than they are.)
 #[tactic(auto, unfolding(crate::specs::Shifts::shift_of))]
 pub fn exec_asr(size: Size, shift: u32, value: u32, flags: Flags) -> Answer
     ensures { result ≡ shift_of ShiftOp.Asr size shift value flags }
@@ -253,7 +254,8 @@ pub fn exec_rol(size: Size, shift: u32, value: u32, flags: Flags) -> Answer
     rotated(size, k, Held { value, out }, flags.x)
 }
 
-// ROR Dx,Dy and ROR #<data>,Dy
+// ROR Dx,Dy and ROR #<data>,Dy. (Four lines, as ROL: they differ in the way round and in the bit out, the rest is
+// `rotated`.)
 pub fn exec_ror(size: Size, shift: u32, value: u32, flags: Flags) -> Answer
     ensures { result ≡ shift_of ShiftOp.Ror size shift value flags }
 {

@@ -13,8 +13,8 @@ pub enum Size {
     Long,
 }
 
-// The condition codes: extend, negative, zero, overflow, carry.
-#[derive(Clone, Copy, PartialEq, Eq)]
+// The condition codes: extend, negative, zero, overflow, carry. By default all are clear.
+#[derive(Clone, Copy, Default, PartialEq, Eq)]
 pub struct Flags {
     pub x: bool,
     pub n: bool,
@@ -42,7 +42,7 @@ pub struct Answer {
 }
 
 // CHK's class. Over: the value is above the bound. Below: it is below 0. Short: it is below 0 too, and
-// value - bound overflows, which the crate m68k traps on the short path of Over. These three are traps. The numbers are ours, 0 where it doesn't trap.
+// value - bound overflows, which the crate m68k traps on the short path of Over. These three are traps. The numbers are ours.
 #[derive(Clone, Copy, PartialEq, Eq)]
 pub enum Check {
     Pass = 0,
@@ -92,7 +92,8 @@ impl Size {
         }
     }
 
-    // 2 to the number of bits, and half of that: the weight of the top bit. `1 << self.bits()` takes 3 instructions more of ASR.
+    // 2 to the number of bits, and half of that: the weight of the top bit. `1 << self.bits()` takes 3 instructions more
+    // of ASR, and the width's top for `half` 11 more of ADDA.
     pub(crate) fn modulus(self) -> u64
         ensures { (result ≡ 2 ^ bits_of self) × (0 < result) × (result ≤ 2 ^ 32) }
     {

@@ -17,7 +17,8 @@ use alu::shift_rotate::{
 };
 use alu::types::{Answer, Checked, Flags, Size, Verdict};
 
-// A size by its number, if it names one. One `match` with a default of its own: the compiler then sees that a size and its number are the same.
+// A size by its number, if it names one. (No `TryFrom`: type and trait are of other crates, and the numbers of sizes are
+// this crate's.) One `match` with a default of its own: the compiler then sees that a size and its number are the same.
 pub fn size_of(number: u8) -> Option<Size>
     ensures { result ≡ size_of number }
 {
