@@ -6,9 +6,7 @@ ghost use Rattle.step.specs.Lent.{performed, held, ran_in};
 
 use super::forms::Step;
 use super::registers::State;
-use super::runs::{
-    Left, Ran, advance, all_done, begin, left_off, place_before, ran_of, stop_at,
-};
+use super::runs::{Left, Ran, advance, all_done, begin, left_off, place_before, ran_of, stop_at};
 use super::steps::{Outcome, perform};
 use alu::types::Flags;
 
@@ -53,7 +51,9 @@ pub fn run_in(
     let line = if all_done(on) {
         0
     } else {
-        listing.get(place_before(on.next)).map_or(0, |step| step.line)
+        listing
+            .get(place_before(on.next))
+            .map_or(0, |step| step.line)
     };
     left_off(len, start, on, line)
 }
