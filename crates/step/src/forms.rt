@@ -67,8 +67,8 @@ pub enum Form {
     Chk(D, D),
 }
 
-// `line` is the text line that a step comes from, 0 if it was given none. No test looks at it: it is printed, and a trap or a
-// refusal tells it.
+// `line` is the text line that a step comes from, no `Option`: document 02 says "0 for a step made by hand". No test looks at it:
+// it is printed, and a trap or a refusal tells it.
 #[derive(Clone, Copy)]
 pub struct Step {
     pub size: Size,
@@ -96,6 +96,7 @@ pub enum Operation {
     Chk,
 }
 
+// By a function, no `From`: a form has an operation, and isn't turned into one.
 pub fn operation_of(form: Form) -> Operation
     ensures { result ≡ operation_of form }
 {

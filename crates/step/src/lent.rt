@@ -6,13 +6,11 @@ ghost use Rattle.step.specs.Lent.{performed, held, ran_in};
 
 use super::forms::Step;
 use super::registers::State;
-use super::runs::{
-    Left, Ran, SLOTS, advance, all_done, begin, left_off, nowhere, place_before, ran_of, stop_at,
-};
+use super::runs::{Left, Ran, advance, all_done, begin, left_off, place_before, ran_of, stop_at};
 use super::steps::{Outcome, perform};
 use alu::types::Flags;
 
-// What one step says beside the state that it leaves.
+// What one step says beside the state that it leaves; see `Performed`.
 #[derive(Clone, Copy)]
 pub struct Told {
     pub outcome: Outcome,
@@ -32,8 +30,8 @@ pub fn perform_in(state: &mut State, step: Step) -> Told
 }
 
 // A run on registers that are lent, and changed there: the one loop, which every other way of running calls. A trap's or a
-// refusal's line is read behind it; before a start past the end no step stands either, and the line is 0. The two rows stay apart
-// (a `&mut State` for both, tried as steps.rt says: 61.7).
+// refusal's line is read behind it; before a start past the end no step stands either, and the line is 0. Tried as steps.rt says: a
+// `&mut State` for the two rows, 61.7; `for step in &listing[start..stop]` with a `break`, and no `going`: 68.1.
 pub fn run_in(
     listing: &[Step],
     d: &mut [u32; 8],
@@ -53,7 +51,9 @@ pub fn run_in(
     let line = if all_done(on) {
         0
     } else {
-        fetch(listing, place_before(on.next), nowhere()).line
+        listing
+            .get(place_before(on.next))
+            .map_or(0, |step| step.line)
     };
     left_off(len, start, on, line)
 }
@@ -66,22 +66,6 @@ pub fn run(listing: &[Step], state: State, start: usize, budget: u32) -> Ran
     let mut a = state.a;
     let left = run_in(listing, &mut d, &mut a, state.flags, start, budget);
     ran_of(left, d, a)
-}
-
-// A run of the first `len` steps of an array, on registers that are lent.
-pub(crate) fn run_first(
-    listing: [Step; SLOTS],
-    len: usize,
-    d: &mut [u32; 8],
-    a: &mut [u32; 8],
-    flags: Flags,
-    start: usize,
-    budget: u32,
-) -> Left
-    requires { len ≤ array_slots }
-    ensures { ran_in result d.new a.new ≡ run_of perform_of (take len listing) (held d.old a.old flags) start budget }
-{
-    run_in(&listing[..len], d, a, flags, start, budget)
 }
 
 // A run of one step.

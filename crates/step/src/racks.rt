@@ -11,7 +11,7 @@ use super::runs::{End, Ran};
 // The most boxes of a rack.
 pub const BOXES_MAX: usize = 64;
 
-// What a run says of a box beside the state that it leaves.
+// What a run says of a box beside the state that it leaves, which its set holds: `Ran` says why it is a struct of its own.
 #[derive(Clone, Copy)]
 pub struct Boxed {
     pub end: End,
@@ -68,7 +68,7 @@ pub fn rack(
 ) -> Result<usize, TooManyBoxes>
     ensures { left result sets.new answers.new ≡ rack_of perform_of listing.now sets.old starts.now budget answers.old }
 {
-    // By index: what stands behind an `iter_mut` that is over, no proof knows.
+    // By index: no proof knows what stands behind a `zip` of two `iter_mut` (of one alone it does: `lay_line` of recipes).
     let boxes = plan(sets.len(), starts.len(), answers.len())?;
     for i in 0..boxes {
         let ran = run(listing, sets[i], starts[i], budget);

@@ -12,8 +12,8 @@ pub struct D(pub u8);
 #[derive(Clone, Copy)]
 pub struct A(pub u8);
 
-// The registers and the flags.
-#[derive(Clone, Copy)]
+// The registers and the flags. By default all are 0 and clear.
+#[derive(Clone, Copy, Default)]
 pub struct State {
     pub d: [u32; 8],
     pub a: [u32; 8],

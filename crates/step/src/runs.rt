@@ -6,11 +6,11 @@ ghost use Rattle.step.specs.Run.{ends, end_line, run_of, resumed_of};
 ghost use Rattle.step.specs.Lent.{held, ran_in};
 ghost use Rattle.step.specs.Course.{came_out, is_done, course_of, stop_of, begin_of, Advanced, end_at, stood_at, nowhere, halted_of, left_of, Ready, Halts};
 
-use super::forms::{Form, Step};
-use super::lent::{run, run_first};
-use super::registers::{D, State};
+use super::forms::Step;
+use super::lent::run;
+use super::registers::State;
 use super::steps::{Came, Fault, Outcome, Trap, perform_on};
-use alu::types::{Flags, Size};
+use alu::types::Flags;
 
 // The slots of a listing that stands in an array.
 pub const SLOTS: usize = 256;
@@ -25,7 +25,7 @@ pub enum End {
 }
 
 impl End {
-    // The text line of the step that was trapped or refused; 0 where there is none.
+    // The text line of the step that was trapped or refused; 0 where there is none, as document 02 numbers it ("0 with number 10").
     pub fn line(self) -> u8
         ensures { result ≡ end_line self }
     {
@@ -37,7 +37,8 @@ impl End {
     }
 }
 
-// What a run hands back. `next` is the place to go on from; `clocks` is the sum of the steps' figures.
+// What a run hands back, flat as document 01 lists it. `next` is the place to go on from; `clocks` is the sum of the steps' figures.
+// `Left` and `Boxed` say the same of registers that stay with the caller: compare/src/ported.rs has the layouts of all three.
 #[derive(Clone, Copy)]
 pub struct Ran {
     pub end: End,
@@ -58,7 +59,7 @@ pub struct Left {
 }
 
 // Where a run stands between two steps: whether it goes on, how the last step came out, the place behind it, the figures
-// so far, and the flags. The registers are not in it: each step is lent them.
+// so far, and the flags. The registers are not in it: each step is lent them. `going` holds the loop's one test (`run_in`).
 #[derive(Clone, Copy)]
 pub(crate) struct Course {
     pub going: bool,
@@ -85,27 +86,8 @@ fn stands(going: bool, came: Came, next: usize, clocks: u64, flags: Flags) -> Co
 pub(crate) fn stop_at(len: usize, start: usize, budget: u32) -> usize
     ensures { result ≡ stop_of len start budget }
 {
-    if start < len {
-        let rest = len - start;
-        if rest < budget as usize {
-            len
-        } else {
-            start + budget as usize
-        }
-    } else {
-        start
-    }
-}
-
-// What stands at a place that a listing has not: its line is 0.
-pub(crate) fn nowhere() -> Step
-    ensures { result ≡ nowhere }
-{
-    Step {
-        size: Size::Byte,
-        form: Form::Chk(D(0), D(0)),
-        line: 0,
-    }
+    let rest = len.saturating_sub(start);
+    start + rest.min(budget as usize)
 }
 
 // Where a run starts.
@@ -242,7 +224,8 @@ pub(crate) fn ran_of(left: Left, d: [u32; 8], a: [u32; 8]) -> Ran
     }
 }
 
-// A run of a listing that stands in an array, in its first `count` steps; a count above `SLOTS` means all of them.
+// A run of a listing that stands in an array, in its first `count` steps; a count above `SLOTS` means all of them. Document 01 asks
+// for an array's form: "fixed arrays come first".
 pub fn run_array(
     listing: [Step; SLOTS],
     count: usize,
@@ -253,10 +236,7 @@ pub fn run_array(
     ensures { result ≡ run_of perform_of (take count listing) state start budget }
 {
     let len = count.min(SLOTS);
-    let mut d = state.d;
-    let mut a = state.a;
-    let left = run_first(listing, len, &mut d, &mut a, state.flags, start, budget);
-    ran_of(left, d, a)
+    run(&listing[..len], state, start, budget)
 }
 
 // A run before its first step.

@@ -1,10 +1,9 @@
 // One step: on registers that are lent, and by value. In a contract `within` and its like are the definitions of specs/,
 // not the functions. Where a comment says "tried", it counts instructions a step of the loop of a run, as `tools/one-loop` does of
-// code that is not proved yet (60.2 as it stands), and what is more than 1 % slower is not taken.
+// code that is not proved yet (60.0 as it stands, 60.2 to 60.5 when most were tried), and what is more than 1 % slower is not taken.
 ghost use Rattle.std.specs.Prelude.{◌≡◌, ℕ, ◌<◌, ◌&&◌, List, slice_set};
 ghost use Rattle.alu.specs.Answers.{refigured, figure};
 ghost use Rattle.alu.specs.Shifts.{shift_of};
-ghost use Rattle.alu.specs.Bitops.{bitop_of};
 ghost use Rattle.step.specs.declared.forms.Form.TheVariants as Form;
 ghost use Rattle.step.specs.declared.forms.Register.TheVariants as Register;
 ghost use Rattle.step.specs.declared.steps.Came.TheVariants as How;
@@ -19,7 +18,7 @@ use super::forms::{AddressOp, Count, Form, OneOp, QuickOp, Register, Step, TwoOp
 use super::lent::run_one;
 use super::registers::{A, D, State, merged, read, write};
 use super::runs::End;
-use alu::bit_manip::{BitOp, exec_bchg, exec_bclr, exec_bset, exec_btst};
+use alu::bit_manip::{BitOp, bit_operation};
 use alu::integer_arith::{
     exec_add, exec_adda, exec_addq, exec_addq_address, exec_addx, exec_chk, exec_clr, exec_cmp,
     exec_cmpa, exec_ext, exec_neg, exec_negx, exec_not, exec_sub, exec_suba, exec_subq,
@@ -30,21 +29,21 @@ use alu::shift_rotate::{
 };
 use alu::types::{Answer, Check, Flags, Size};
 
-// Why a step, or a run, is refused: document 01's numbers 1, 2, 3 and 10.
+// Why a step, or a run, is refused, with document 01's numbers.
 #[derive(Clone, Copy)]
 pub enum Fault {
-    BadSmall,
-    NoSuchSize,
-    NoSuchRegister,
-    StartPastEnd,
+    BadSmall = 1,
+    NoSuchSize = 2,
+    NoSuchRegister = 3,
+    StartPastEnd = 10,
 }
 
 // The class of a CHK that traps.
 #[derive(Clone, Copy)]
 pub enum Trap {
-    Over,
-    Short,
-    Below,
+    Over = 1,
+    Short = 2,
+    Below = 3,
 }
 
 #[derive(Clone, Copy)]
@@ -54,7 +53,8 @@ pub enum Outcome {
     Refused(Fault),
 }
 
-// What a step hands back: its outcome, the registers and flags after it, its clock figure.
+// What a step hands back: its outcome, the registers and flags after it, its clock figure. `Told` leaves out the state, which is
+// lent, and `Acted` all registers, in the loop: each is flat, with a layout that was counted (`Came`) or that compare calls by.
 #[derive(Clone, Copy)]
 pub struct Performed {
     pub outcome: Outcome,
@@ -88,12 +88,7 @@ impl From<Fault> for u32 {
     ghost from_gives = { λ fault number. number ≡ number_of fault };
 
     fn from(fault: Fault) -> u32 {
-        match fault {
-            Fault::BadSmall => 1,
-            Fault::NoSuchSize => 2,
-            Fault::NoSuchRegister => 3,
-            Fault::StartPastEnd => 10,
-        }
+        fault as u32
     }
 }
 
@@ -102,11 +97,7 @@ impl From<Trap> for u32 {
     ghost from_gives = { λ trap number. number ≡ class_of trap };
 
     fn from(trap: Trap) -> u32 {
-        match trap {
-            Trap::Over => 1,
-            Trap::Short => 2,
-            Trap::Below => 3,
-        }
+        trap as u32
     }
 }
 
@@ -141,6 +132,8 @@ fn within(least: u8, most: u8, k: u8) -> bool
     least <= k && k <= most
 }
 
+// Here and in the next three an operation is a value, since a listing and a word of C carry it; `rt ci` lets no function hand out
+// a closure or a pointer for it.
 fn on_address(op: AddressOp, size: Size, src: u32, dst: u32, flags: Flags) -> Answer
     ensures { result ≡ on_address_of op size src dst flags }
 {
@@ -181,17 +174,6 @@ fn shift(op: ShiftOp, size: Size, count: u32, dst: u32, flags: Flags) -> Answer
         ShiftOp::Ror => exec_ror(size, count, dst, flags),
         ShiftOp::Roxl => exec_roxl(size, count, dst, flags),
         ShiftOp::Roxr => exec_roxr(size, count, dst, flags),
-    }
-}
-
-fn bit(op: BitOp, size: Size, number: u32, dst: u32, flags: Flags) -> Answer
-    ensures { result ≡ bitop_of op size number dst flags }
-{
-    match op {
-        BitOp::Btst => exec_btst(size, number, dst, flags),
-        BitOp::Bset => exec_bset(size, number, dst, flags),
-        BitOp::Bclr => exec_bclr(size, number, dst, flags),
-        BitOp::Bchg => exec_bchg(size, number, dst, flags),
     }
 }
 
@@ -447,7 +429,7 @@ fn step_bit(d: &mut [u32; 8], flags: Flags, size: Size, op: BitOp, c: Count, t: 
         if size == Size::Long {
             if let Some(number) = counted::<0, 31, 32>(d, c) {
                 let dst = read(d, t.0);
-                let answer = bit(op, size, number, dst, flags);
+                let answer = bit_operation(op, size, number, dst, flags);
                 let clocks = figure_of_bit(op, number, answer.clocks);
                 to_data(d, size, t, dst, Answer { clocks, ..answer })
             } else {

@@ -12,4 +12,4 @@ returns c =
     let len = c.min-len in
     let same : take len.result a.listing ≡ take a.count a.listing =
     ap (λ (k : ℕ). take k a.listing) len.ensures ∙ first_steps a.count array_slots a.listing (omega arith) in
-    c.ran_of.ensures ∙ (c.run_first-left.ensures ∙ ap (λ (l : List Step). run_of perform_of l a.state a.start a.budget) same)
+    c.run.ensures ∙ ap (λ (l : List Step). run_of perform_of l a.state a.start a.budget) same
