@@ -2,7 +2,7 @@
 // counts a line's bytes from 1.
 ghost use Rattle.std.specs.Prelude.{◌≡◌, ◌+◌, ◌<◌, ◌^◌, [], length};
 ghost use Rattle.text.specs.Text.{before, after, parts};
-ghost use Rattle.recipes.specs.Reader.{slip, verb_of, past, only_digit, one_field, two_fields, fields_of, line_of, lines_of, width_digit, width_line, read_of};
+ghost use Rattle.recipes.specs.Reader.{slip, verb_of, past, one_field, two_fields, fields_of, line_of, lines_of, width_digit, width_line, read_of};
 
 use super::lines::{check_line, is_width, unused, way_of};
 use super::types::{LINES_MAX, Line, Recipe, Refusal, Refused, Verb, at_column, at_line};
@@ -51,17 +51,6 @@ fn verb_of(field: &[u8]) -> Option<Verb>
         b"up" => Some(Verb::Up),
         _ => None,
     }
-}
-
-// The digit that is the only field.
-#[tactic(auto, using(text::proofs::Texts::first_tells))]
-fn only_digit(fields: &[u8]) -> Option<u8>
-    ensures { result ≡ only_digit (parts 9 fields.now) }
-{
-    if first(fields, TAB) < fields.len() {
-        return None;
-    }
-    digit_of(fields)
 }
 
 // The line of a verb that takes one number, from the fields behind it. The tab behind the verb has the column `at`.
@@ -142,15 +131,8 @@ fn width_digit(digit: Option<u8>) -> Option<u8>
 fn read_width(row: &[u8]) -> Option<u8>
     ensures { result ≡ width_line row.now }
 {
-    let tab = first(row, TAB);
-    let named = &row[..tab] == b"width".as_slice();
-    if !named {
-        return None;
-    }
-    if row.len() <= tab {
-        return None;
-    }
-    width_digit(only_digit(&row[tab + 1..]))
+    let field = row.strip_prefix(b"width\t".as_slice())?;
+    width_digit(digit_of(field))
 }
 
 // The lines after the width line. Line `count` of a recipe, from 0, is text line `count` + 2. A `while`: it goes down what is left
@@ -171,10 +153,11 @@ fn read_lines(width: u8, text: &[u8]) -> Result<Recipe, Refused>
         if left.len() <= end {
             return Err(at_column(Refusal::NoNewline, count + 2, end + 1));
         }
-        match read_line(numbers, &left[..end]) {
-            Ok(line) => lines[count] = line,
-            Err(slip) => return Err(at_column(slip.refusal, count + 2, slip.column)),
-        }
+        lines[count] = read_line(numbers, &left[..end]).map_err(|slip| at_column(
+            slip.refusal,
+            count + 2,
+            slip.column,
+        ))?;
         count += 1;
         left = &left[end + 1..];
     }
