@@ -135,8 +135,8 @@ fn read_width(row: &[u8]) -> Option<u8>
     width_digit(digit_of(field))
 }
 
-// The lines after the width line. Line `count` of a recipe, from 0, is text line `count` + 2. A `while`: it goes down what is left
-// of the text, which no count tells.
+// The lines after the width line. Line `count` of a recipe, from 0, is text line `count` + 2.
+// By `left`: `split_inclusive` was tried, and that its pieces are `before` and `after` did not close; std's `slice_split_part` is of `split`.
 fn read_lines(width: u8, text: &[u8]) -> Result<Recipe, Refused>
     requires { 0 < width }
     ensures { result ≡ lines_of width [] (before 10 text.now) (after 10 text.now) }
