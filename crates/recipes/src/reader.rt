@@ -2,6 +2,7 @@
 // counts a line's bytes from 1.
 ghost use Rattle.std.specs.Prelude.{◌≡◌, ◌+◌, ◌<◌, ◌^◌, [], length};
 ghost use Rattle.text.specs.Text.{before, after, parts};
+ghost use Rattle.recipes.specs.Recipe.{at_column};
 ghost use Rattle.recipes.specs.Reader.{slip, verb_of, past, one_field, two_fields, fields_of, line_of, lines_of, width_digit, width_line, read_of};
 
 use super::lines::{check_line, is_width, unused, way_of};
@@ -22,6 +23,13 @@ impl Slip {
         ensures { result ≡ slip refusal column }
     {
         Slip { refusal, column }
+    }
+
+    // As the refusal of a text line.
+    fn on(self, line: usize) -> Refused
+        ensures { result ≡ at_column self.refusal line self.column }
+    {
+        at_column(self.refusal, line, self.column)
     }
 }
 
@@ -153,11 +161,7 @@ fn read_lines(width: u8, text: &[u8]) -> Result<Recipe, Refused>
         if left.len() <= end {
             return Err(at_column(Refusal::NoNewline, count + 2, end + 1));
         }
-        lines[count] = read_line(numbers, &left[..end]).map_err(|slip| at_column(
-            slip.refusal,
-            count + 2,
-            slip.column,
-        ))?;
+        lines[count] = read_line(numbers, &left[..end]).map_err(|slip| slip.on(count + 2))?;
         count += 1;
         left = &left[end + 1..];
     }
