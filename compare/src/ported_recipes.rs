@@ -62,7 +62,8 @@ fn answered<T>(ask: impl FnOnce(*mut T)) -> T {
     unsafe { answer.assume_init() }
 }
 
-/// The refusal, or its number 0, and the recipe: of a refused text document 01's, of width 1 and no lines.
+/// The refusal, or its number 0, and the recipe. Of a refused text the port hands out none: document 01's, of width 1 and no lines, is made here, and says
+/// nothing of the port.
 pub fn read(text: &[u8]) -> (Refused, Recipe) {
     // SAFETY: the pointers are to live values, and the port keeps none of them.
     match answered(|answer| unsafe { recipes_reader_read(answer, text.as_ptr(), text.len()) }) {
@@ -84,7 +85,7 @@ pub fn steps_laid(recipe: &Recipe) -> usize {
     }
 }
 
-/// What is told, and all slots: of a refused recipe blank ones.
+/// What is told, and all slots. Of a refused recipe the port hands out none: blank ones are made here, and say nothing of the port.
 pub fn translate_array(recipe: &Recipe) -> (Told, [Step; SLOTS]) {
     // SAFETY: as above.
     match answered(|answer| unsafe { recipes_translator_translate_array(answer, recipe) }) {

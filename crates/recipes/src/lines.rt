@@ -89,7 +89,7 @@ pub fn target(line: Line) -> u8
 pub(crate) fn is_width(width: u8) -> bool
     ensures { result ≡ is_width width }
 {
-    (width == 1) | (width == 2) | (width == 4)
+    matches!(width, 1 | 2 | 4)
 }
 
 // Whether a line may stand in a recipe of so many numbers, or why it may not.
@@ -99,10 +99,10 @@ pub(crate) fn check_line(numbers: u8, line: Line) -> Result<(), Refusal>
 {
     let way = way_of(line.verb);
     let to = goal(way, line);
-    if (numbers <= line.a) | (numbers <= to) {
+    if numbers <= line.a || numbers <= to {
         return Err(Refusal::NoSuchNumber);
     }
-    if way.clears & (line.a == to) {
+    if way.clears && line.a == to {
         return Err(Refusal::OntoItself);
     }
     Ok(())

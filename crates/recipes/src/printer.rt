@@ -66,6 +66,7 @@ fn size_name(size: Size) -> &'static [u8]
 #[derive(Clone, Copy)]
 struct Operand(u8, u8);
 
+// Apart from the operands of recipe_calls: those are kinds and numbers for C, and one function for both would want a third type.
 fn source(form: Form) -> Option<Operand>
     ensures { operand_text result ≡ source_text form }
 {
@@ -155,7 +156,8 @@ pub fn print_step(place: u64, step: Step, out: &mut [u8]) -> usize
     w.at
 }
 
-// Prints a listing; of more than `SLOTS` steps the first `SLOTS`.
+// Prints a listing; of more than `SLOTS` steps the first `SLOTS`, 256, as many as a listing by value has: so the sum of their figures
+// has room in 64 bits (`clocks`).
 pub fn print(width: u8, steps: &[Step], out: &mut [u8]) -> usize
     ensures { written out.new result ≡ writing out.old 0 (listing_text width (take array_slots steps.now)) }
 {
@@ -174,9 +176,13 @@ pub fn print(width: u8, steps: &[Step], out: &mut [u8]) -> usize
 pub fn print_refusal(refused: Refused, out: &mut [u8]) -> usize
     ensures { written out.new result ≡ writing out.old 0 (refusal_text refused) }
 {
-    let number = u8::from(refused.refusal);
     let mut w = Writer { out, at: 0 };
-    put_head(&mut w, b"refused", u64::from(number), refused.line as u64);
+    put_head(
+        &mut w,
+        b"refused",
+        u64::from(u8::from(refused.refusal)),
+        refused.line as u64,
+    );
     w.number(TAB, refused.column as u64);
     w.byte(NEWLINE);
     w.at

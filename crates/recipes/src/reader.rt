@@ -2,7 +2,8 @@
 // counts a line's bytes from 1.
 ghost use Rattle.std.specs.Prelude.{◌≡◌, ◌+◌, ◌<◌, ◌^◌, [], length};
 ghost use Rattle.text.specs.Text.{before, after, parts};
-ghost use Rattle.recipes.specs.Reader.{slip, verb_of, past, only_digit, one_field, two_fields, fields_of, line_of, lines_of, width_digit, width_line, read_of};
+ghost use Rattle.recipes.specs.Recipe.{at_column};
+ghost use Rattle.recipes.specs.Reader.{slip, verb_of, past, one_field, two_fields, fields_of, line_of, lines_of, width_digit, width_line, read_of};
 
 use super::lines::{check_line, is_width, unused, way_of};
 use super::types::{LINES_MAX, Line, Recipe, Refusal, Refused, Verb, at_column, at_line};
@@ -22,6 +23,13 @@ impl Slip {
         ensures { result ≡ slip refusal column }
     {
         Slip { refusal, column }
+    }
+
+    // As the refusal of a text line.
+    fn on(self, line: usize) -> Refused
+        ensures { result ≡ at_column self.refusal line self.column }
+    {
+        at_column(self.refusal, line, self.column)
     }
 }
 
@@ -51,17 +59,6 @@ fn verb_of(field: &[u8]) -> Option<Verb>
         b"up" => Some(Verb::Up),
         _ => None,
     }
-}
-
-// The digit that is the only field.
-#[tactic(auto, using(text::proofs::Texts::first_tells))]
-fn only_digit(fields: &[u8]) -> Option<u8>
-    ensures { result ≡ only_digit (parts 9 fields.now) }
-{
-    if first(fields, TAB) < fields.len() {
-        return None;
-    }
-    digit_of(fields)
 }
 
 // The line of a verb that takes one number, from the fields behind it. The tab behind the verb has the column `at`.
@@ -142,19 +139,12 @@ fn width_digit(digit: Option<u8>) -> Option<u8>
 fn read_width(row: &[u8]) -> Option<u8>
     ensures { result ≡ width_line row.now }
 {
-    let tab = first(row, TAB);
-    let named = &row[..tab] == b"width".as_slice();
-    if !named {
-        return None;
-    }
-    if row.len() <= tab {
-        return None;
-    }
-    width_digit(only_digit(&row[tab + 1..]))
+    let field = row.strip_prefix(b"width\t".as_slice())?;
+    width_digit(digit_of(field))
 }
 
-// The lines after the width line. Line `count` of a recipe, from 0, is text line `count` + 2. A `while`: it goes down what is left
-// of the text, which no count tells.
+// The lines after the width line. Line `count` of a recipe, from 0, is text line `count` + 2.
+// By `left`: `split_inclusive` was tried, and that its pieces are `before` and `after` did not close; std's `slice_split_part` is of `split`.
 fn read_lines(width: u8, text: &[u8]) -> Result<Recipe, Refused>
     requires { 0 < width }
     ensures { result ≡ lines_of width [] (before 10 text.now) (after 10 text.now) }
@@ -171,10 +161,7 @@ fn read_lines(width: u8, text: &[u8]) -> Result<Recipe, Refused>
         if left.len() <= end {
             return Err(at_column(Refusal::NoNewline, count + 2, end + 1));
         }
-        match read_line(numbers, &left[..end]) {
-            Ok(line) => lines[count] = line,
-            Err(slip) => return Err(at_column(slip.refusal, count + 2, slip.column)),
-        }
+        lines[count] = read_line(numbers, &left[..end]).map_err(|slip| slip.on(count + 2))?;
         count += 1;
         left = &left[end + 1..];
     }

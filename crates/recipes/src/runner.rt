@@ -12,8 +12,8 @@ use super::reader::read;
 use super::translator::translate_array;
 use super::types::{Line, Recipe, RecipeRun, Refused, STEPS_MAX};
 use alu::types::Flags;
+use step::lent::run;
 use step::registers::State;
-use step::runs::run_array;
 
 // What is told of the flags behind the last line; with no line they are as they were.
 fn codes_after(lines: &[Line], flags: Flags) -> Option<Flags>
@@ -30,7 +30,7 @@ pub fn run_recipe(recipe: Recipe, state: State) -> Result<RecipeRun, Refused>
     ensures { result ≡ recipe_run_of recipe state }
 {
     let made = translate_array(recipe)?;
-    let ran = run_array(made.steps, made.count, state, 0, STEPS_MAX);
+    let ran = run(made.steps(), state, 0, STEPS_MAX);
     let State { d, a, flags } = ran.state;
     Ok(RecipeRun {
         d,

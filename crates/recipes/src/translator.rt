@@ -64,7 +64,7 @@ fn blank() -> Step
 fn act_at(way: Way, first: bool, part: usize) -> Act
     ensures { result ≡ act_at way first part }
 {
-    if way.clears & (part == 0) {
+    if way.clears && part == 0 {
         return Act::One(OneOp::Clr);
     }
     if first { way.first } else { way.other }
@@ -129,9 +129,7 @@ fn judge_lines(width: u8, lines: &[Line]) -> Result<usize, Refused>
     let numbers = 8 / width;
     let mut steps = 0;
     for (k, line) in lines.iter().enumerate() {
-        if let Err(refusal) = check_line(numbers, *line) {
-            return Err(at_line(refusal, k + 2));
-        }
+        check_line(numbers, *line).map_err(move |refusal| at_line(refusal, k + 2))?;
         steps += steps_of(width, way_of(line.verb));
     }
     Ok(steps)
@@ -162,6 +160,7 @@ fn lay_line(width: u8, line: Line, text_line: u8, slots: &mut [Step])
 }
 
 // The steps of the lines, and blank slots behind them. Line k, from 0, is text line k + 2.
+// By `at`: lines differ in their number of steps, so no `chunks_exact_mut`; `split_at_mut` would keep the rest by hand in its place.
 fn lay(width: u8, lines: &[Line]) -> [Step; SLOTS]
     requires { Layable width lines.now }
     ensures { result ≡ over (numbered_of width 2 lines.now) blanks }
@@ -209,8 +208,7 @@ fn at_rest() -> State
 fn figure(step: Step) -> u64
     ensures { (result ≡ figure_of step) × (result < 2 ^ 32) }
 {
-    let performed = perform(at_rest(), step);
-    performed.clocks as u64
+    u64::from(perform(at_rest(), step).clocks)
 }
 
 pub(crate) fn clocks(steps: &[Step]) -> u64

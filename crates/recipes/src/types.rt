@@ -64,11 +64,10 @@ impl Default for Recipe {
     ghost is_default = { λ recipe. recipe ≡ no_recipe };
 
     fn default() -> Recipe {
-        let lines = [unused(); LINES_MAX];
         Recipe {
             width: 1,
             count: 0,
-            lines,
+            lines: [unused(); LINES_MAX],
         }
     }
 }
@@ -109,6 +108,7 @@ impl From<Refusal> for u8 {
 // A refusal, the text line that it is of, and the column in it, in bytes; both count from 1. The line is 0 where none is to
 // blame, the column for every refusal but 11 to 14. Line k of a recipe, from 0, is text line k + 2 and the width line 1; too
 // many lines and too little room have line 0 where the translator refuses them.
+// No `Option`: 0 for none is document 02's number ("else 0"), which `refusal_text` prints and C is told.
 #[derive(Clone, Copy, PartialEq, Eq)]
 pub struct Refused {
     pub refusal: Refusal,

@@ -36,6 +36,7 @@ pub fn digit_of(field: &[u8]) -> Option<u8>
 }
 
 // What a byte counts as a digit; 0 if it is none.
+// No `Option`: a field with such a byte is not the writing of its value, which `decimal_of` and `hex_of` ask.
 pub fn worth(b: u8) -> u8
     ensures { result ≡ worth_of b }
 {
@@ -77,6 +78,7 @@ pub fn hex(value: u32) -> [u8; 8]
 }
 
 // The number whose eight digits the field is.
+// Apart from `decimal_of`: eight digits in an array, there as many as the number has; a closure that writes would make neither shorter.
 pub fn hex_of(field: &[u8]) -> Option<u32>
     ensures { result ≡ hex_read field.now }
 {

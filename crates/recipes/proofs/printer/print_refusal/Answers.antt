@@ -7,5 +7,5 @@ use Rattle.recipes.proofs.printer.print_refusal.Goals as goal
 pub returns : goal.returns
 unfolding refusal_text
 returns c =
-    rw (← c.from-number.ensures)
-    (ends _ _ _ (rw c.from.ensures at (simp append_assoc at (next _ _ _ _ _ c.put_head.ensures (next _ _ _ _ _ c.number.ensures c.byte.ensures)))) (search rules))
+    rw (← c.from.ensures)
+    (ends _ _ _ (rw c.from-2.ensures at (simp append_assoc at (next _ _ _ _ _ c.put_head.ensures (next _ _ _ _ _ c.number.ensures c.byte.ensures)))) (search rules))

@@ -12,7 +12,10 @@ use Rattle.recipes.specs.Reader.{or_slip, lines_of}
 use Rattle.text.specs.Text.{before, after}
 use Rattle.recipes.specs.Recipe.{lines_max}
 use Rattle.text.proofs.Texts.{from, first_by}
+use Rattle.recipes.specs.Recipe.{at_column}
+use Rattle.std.specs.Prelude.{Ok, Err}
 use Rattle.recipes.proofs.Columns.{past_first}
+use Rattle.recipes.proofs.Digits.{handed_on, mapped_err, mapped_ok}
 use Rattle.recipes.proofs.LineByLine.{lines_many, lines_cut, lines_next, lines_done, padded_more}
 use Rattle.recipes.proofs.reader.read_lines.Goals as goal
 use Rattle.recipes.proofs.reader.read_lines.Goals.{After-read_line}
@@ -56,20 +59,25 @@ returns-then-left-end c =
     let e : c.first-end.result ≡ length c.loop-left.left.now = c.first-end.ensures ∙ ap length whole in
     rw (s.rest, (first_by c.first-end.ensures).none h, whole, lines_cut _ _ _ left (room c.loop-left.invariant c.if-count-eq-LINES_MAX.false), ← s.many, past_first, ← e, c.at_column.ensures)
 
-pub returns-in-Err : goal.returns-in-Err
-returns-in-Err c = rw (turn (goal.at.returns-in-Err c).After-read_line, c.in-Err.is, c.at_column-in-Err.ensures)
+pub returns-in_err-lines : goal.returns-in_err-lines
+returns-in_err-lines c =
+    let slip = mapped_err c.read_line.result c.map_err.result _ c.in_err-lines.field-0.0 c.map_err.ensures.cases c.in_err-lines.was in
+    let made = slip.1.1 in
+    let is : c.in_err-lines.field-0.0 ≡ at_column slip.0.refusal (c.loop-left.count + 2) slip.0.column = search rules in
+    handed_on _ _ c.from_residual.ensures.1 ∙ (ap Err is ∙ sym (rw slip.1.0 at (turn (goal.at.returns-in_err-lines c).After-read_line)))
 
 pub loop-left-preserved : goal.loop-left-preserved
 loop-left-preserved c =
     let s = c.loop-left.invariant in
-    let l = c.in-Ok.line in
+    let l = c.in_ok-lines.field-0 in
+    let read : c.read_line.result ≡ Ok l = mapped_ok _ _ _ _ c.map_err.ensures.cases c.in_ok-lines.was in
     record {
       ls = s.ls ++ (l ∷ []);
       many = rw length-append (omega arith);
       within = search rules;
       short = search rules;
       stored = rw (s.stored, s.many) (padded_more s.ls l (room c.loop-left.invariant c.if-count-eq-LINES_MAX.false));
-      rest = rw (turn (goal.at.loop-left-preserved c).After-read_line, c.in-Ok.is);
+      rest = rw (turn (goal.at.loop-left-preserved c).After-read_line, read);
     }
 
 pub returns : goal.returns

@@ -20,4 +20,4 @@ returns c =
     let count : length c.args.state.d ≡ 8 = search mapped in
     let fits : (i : ℕ) → Fits w32 (get_or c.args.state.d i 0) = λ i. search rules in
     let ok : EightLongs c.args.state.d = record { count = count; each = λ i. (fits i).fits } in
-    run_ruled _ _ _ _ _ (sym c.in_ok-made.ensures) ok c.run_array-ran.ensures (rw c.lines.ensures at c.codes_after.ensures)
+    run_ruled _ _ _ _ _ (sym c.in_ok-made.ensures) ok (rw c.steps.ensures at c.run-ran.ensures) (rw c.lines.ensures at c.codes_after.ensures)
