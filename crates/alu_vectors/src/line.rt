@@ -26,7 +26,7 @@ pub(crate) struct Line {
     class: u8,
 }
 
-// The number of a field. A byte that is no hexadecimal digit counts as 0, and the line then fails.
+// The number of a field. A byte that is no hexadecimal digit counts as 0, and the line then fails. (`hex_of` of text takes eight digits alone.)
 fn number(field: &[u8]) -> u32 {
     field
         .iter()

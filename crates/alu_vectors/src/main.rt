@@ -49,6 +49,7 @@ const FILES: [&str; 30] = [
 // More lines than a file has: a proved loop has to end.
 const LINES_MAX: u32 = 1_000_000;
 
+// Its own in each program that counts: what they count and tell differs, and one type for all of it is no plainer.
 #[derive(Clone, Copy, Default)]
 struct Tally {
     cases: u64,
@@ -89,7 +90,7 @@ fn all_lines<R: Print, F: Read>(rt: &R, path: &str, file: &mut F) -> io::Result<
     Ok(tally)
 }
 
-// A file that can't be opened is told, and passed over.
+// A file that can't be opened is told, and passed over. It is told here and not in `input`: a public function that no definition determines may not be added (OUTSIDE of tools/contracts).
 fn replay(rt: &HostRuntime, path: &str) -> io::Result<()> {
     match File::open(rt, path) {
         Ok(mut file) => {

@@ -78,7 +78,7 @@ fn end_place(ran: Ran) -> usize {
     }
 }
 
-// A text line that an end tells, counted from 1, with what stands there; 0 is none.
+// A text line that an end tells, counted from 1, with what stands there; 0 is none, as `End::line` of step tells it.
 fn put_told(pen: &mut Pen, text: &[u8], line: u8) {
     if line != 0 {
         write!(pen, ", line {line}");

@@ -11,7 +11,7 @@ const SHOWN: usize = 60;
 
 const BEFORE: usize = 40;
 
-// Room for a refusal by its numbers: a word, and three numbers of at most 20 digits.
+// Room for a refusal by its numbers: a word, and three numbers of at most 20 digits. (There is no heap for a `String`.)
 const REFUSAL_ROOM: usize = 80;
 
 // Bytes as characters, one for each. A `>` that was typed is no tab, so it is not shown as one.
@@ -55,7 +55,7 @@ fn dots(left_off: bool) -> &'static str {
     if left_off { ".." } else { "" }
 }
 
-// The line and, where the refusal has a column, the mark.
+// The line and, where the refusal has a column, the mark: column 0 is none, as `Refused` has it and C is told it.
 fn put_shown(pen: &mut Pen, refused: Refused, row: &[u8]) {
     let here = refused.column.saturating_sub(1).min(row.len());
     let start = start_for(here);

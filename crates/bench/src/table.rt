@@ -18,7 +18,7 @@ const PLACE: usize = 5;
 
 const STEP: [usize; 4] = [7, 12, 14, 17];
 
-// Room for a step's line: a place of at most 20 digits, and less than 40 bytes behind it.
+// Room for a step's line: a place of at most 20 digits, and less than 40 bytes behind it. (There is no heap for a `String`.)
 const STEP_ROOM: usize = 64;
 
 const LINE: usize = 21;

@@ -106,7 +106,7 @@ fn give<T: Copy>(thing: &mut Option<T>, value: T) -> Result<(), NotTaken> {
     Ok(())
 }
 
-// A number of 1 to `most` digits, where it fits.
+// A number of 1 to `most` digits, where it fits. (The readers of text take no lower case and no zero in front.)
 fn number_of<N: TryFrom<u64>>(text: &[u8], base: u32, most: usize) -> Result<N, NotTaken>
 where
     N::Error: Drop,
@@ -234,7 +234,7 @@ pub(crate) fn tell<W: Write>(to: &mut W, text: &[u8]) {
     let _ = to.write_all(text);
 }
 
-// What failed, as `what` names it, and why.
+// What failed, as `what` names it, and why. Here and not in `input`: a public function that no definition determines may not be added (OUTSIDE of tools/contracts).
 pub(crate) fn tell_failed<W: Write>(to: &mut W, what: &[u8], error: Error) {
     let mut line = [0u8; LINE_MAX];
     let n = failure_line(&mut line, what, error);
@@ -255,6 +255,7 @@ pub(crate) fn report<W: Write>(to: &mut W, word: &[u8], why: NotTaken, others: &
 }
 
 // All words; reading ends at the first that is not taken, which is reported. Word 0 is the program's own name.
+// By number: std's `args` wants a heap.
 pub(crate) fn read_words<E: Env, W: Write>(env: &E, to: &mut W) -> Option<Words> {
     let mut said = Said::default();
     for i in 1..usize::MAX {

@@ -6,6 +6,7 @@ ghost use Rattle.io.specs.Counts.{IsPrefixLen};
 use recipe_calls::TOLD;
 use recipes::types::PRINT_MAX;
 use text::numbers::hex_digit;
+use text::types::{NEWLINE, TAB};
 
 // Room for a text: as much as is printed of any listing.
 pub(crate) const ROOM: usize = PRINT_MAX;
@@ -34,8 +35,8 @@ impl Last {
 
 fn escaped(letter: u8) -> Option<Last> {
     match letter {
-        b't' => Some(Last::Byte(b'\t')),
-        b'n' => Some(Last::Byte(b'\n')),
+        b't' => Some(Last::Byte(TAB)),
+        b'n' => Some(Last::Byte(NEWLINE)),
         b'r' => Some(Last::Byte(b'\r')),
         b'0' => Some(Last::Byte(b'\0')),
         b'\\' => Some(Last::Byte(b'\\')),
@@ -60,7 +61,7 @@ pub(crate) fn text_of(field: &[u8], out: &mut [u8]) -> Option<usize>
     matches!(last, Last::Byte(_)).then_some(length)
 }
 
-// The number below 2^64 whose hexadecimal digits a field has.
+// The number below 2^64 whose hexadecimal digits a field has. (`hex_of` of text takes eight digits alone.)
 fn number_of(field: &[u8]) -> Option<u64> {
     if field.is_empty() {
         return None;

@@ -13,10 +13,12 @@ use input::read_text;
 use std::fs::File;
 use std::rt::Files;
 use std::{fmt, io};
+use text::types::{NEWLINE, TAB};
 
 // Room for a file. One that fills it is too long, and its last line is not whole.
 const FILE: usize = 65536;
 
+// Its own in each program that counts: what they count and tell differs, and one type for all of it is no plainer.
 #[derive(Clone, Copy, Default)]
 struct Tally {
     lines: u64,
@@ -38,7 +40,7 @@ impl Tally {
             return Ok(());
         }
         self.failed = self.failed.wrapping_add(1);
-        let name = row.split(|b| *b == b'\t').next().unwrap_or(row);
+        let name = row.split(|b| *b == TAB).next().unwrap_or(row);
         print!(rt; "failed: ")?;
         rt.write_all(name)?;
         println!(rt; " ({path} line {})", self.lines)
@@ -56,7 +58,7 @@ fn all_lines<R: Print, J: Fn(&[u8]) -> Option<bool>>(
 {
     let mut tally = Tally::default();
     let mut end: usize = 0;
-    for line in file.split_inclusive(|b| *b == b'\n') {
+    for line in file.split_inclusive(|b| *b == NEWLINE) {
         tally.lines = tally.lines.wrapping_add(1);
         end = end.wrapping_add(line.len());
         if line.starts_with(b"#") {

@@ -6,6 +6,7 @@ ghost use Rattle.std.specs.Prelude.{◌≡◌, length};
 
 use crate::fields::{byte, long, numbers_of, told_of};
 use recipe_calls::{TOLD, listing_run};
+use text::types::TAB;
 
 // The numbers before the words, and as many words as a listing may have.
 const HEAD: usize = 18;
@@ -97,7 +98,7 @@ impl Case<'_> {
 // Whether the row's run is as the row has it; none where the row does not read.
 pub(crate) fn runs(row: &[u8]) -> Option<bool> {
     let mut numbers = [ADD; NUMBERS];
-    let count = numbers_of(row.split(|b| *b == b'\t').skip(1), &mut numbers)?;
+    let count = numbers_of(row.split(|b| *b == TAB).skip(1), &mut numbers)?;
     let (head, words) = numbers.split_at(HEAD);
     let listing = words.get(..head[2] as usize)?;
     if count.checked_sub(HEAD)? > listing.len() {

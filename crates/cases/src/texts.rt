@@ -5,11 +5,12 @@
 // 18 to 25 D0 to D7 after. The address registers have fixed values and keep them.
 use crate::fields::{ROOM, byte, long, numbers_of, text_of, told_of};
 use recipe_calls::{TOLD, recipe_answer, recipe_run};
+use text::types::TAB;
 
 // Whether all that is printed for the row's text is as the row has it; none where the row does not read. Behind what is printed,
 // and behind what ought to be, stands 0.
 pub(crate) fn prints(row: &[u8]) -> Option<bool> {
-    let mut fields = row.split(|b| *b == b'\t').skip(1);
+    let mut fields = row.split(|b| *b == TAB).skip(1);
     let mut text = [0u8; ROOM];
     let mut wanted = [0u8; ROOM];
     let mut printed = [0u8; ROOM];
@@ -37,7 +38,7 @@ fn registers(numbers: &[u64]) -> [u32; 8] {
 
 // Whether the row's text, run by one call, leaves registers and flags and tells what the row has; none where the row does not read.
 pub(crate) fn runs(row: &[u8]) -> Option<bool> {
-    let mut fields = row.split(|b| *b == b'\t').skip(1);
+    let mut fields = row.split(|b| *b == TAB).skip(1);
     let mut text = [0u8; ROOM];
     let mut numbers = [0u64; NUMBERS];
     let length = text_of(fields.next()?, &mut text)?;

@@ -19,7 +19,7 @@ fn answer(text: &[u8], out: &mut [u8; PRINT_MAX]) -> usize
     recipes::runner::answer(text, out)
 }
 
-// Says on standard error what failed, and why.
+// Says on standard error what failed, and why. Here and not in `input`: a public function that no definition determines may not be added (OUTSIDE of tools/contracts).
 fn complain(rt: &HostRuntime, what: &[u8], error: Error) {
     let mut line = [0u8; LINE_MAX];
     let k = failure_line(&mut line, what, error);

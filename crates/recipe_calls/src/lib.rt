@@ -113,7 +113,7 @@ fn state_of(d: [u32; 8], a: [u32; 8], flags: u8) -> State
 
 // Runs the first `SLOTS` steps of a listing from a place, with a budget. `told` gets the end, the trap's class or the refusal's
 // number, the place of either, the next place, the steps done, the sum of their figures, and the text line of the step that was
-// trapped or refused.
+// trapped or refused. Two rows and a byte for a `State`: the C interface, over which no struct crosses.
 pub fn listing_run(
     listing: &[u64],
     d: &mut [u32; 8],
@@ -127,6 +127,7 @@ pub fn listing_run(
 {
     let before = state_of(*d, *a, *flags);
     let ran = run(listing_of(listing).steps(), before, start, budget);
+    // By a pattern: the borrow checker covers no `*d = ran.state.d` where the field is an array.
     let State {
         d: new_d,
         a: new_a,
@@ -138,7 +139,8 @@ pub fn listing_run(
     *told = ran_told(ran);
 }
 
-// Box i of a rack is run, and its registers and flags are written.
+// Box i of a rack is run, and its registers and flags are written. Rows and a place: of a `zip` of several `iter_mut` a proof
+// knows nothing afterwards.
 fn run_box(
     steps: &[Step],
     d: &mut [u32],
@@ -188,6 +190,7 @@ pub fn rack_run(
     let steps = made.steps();
     let words = d.len().min(a.len()).min(answers.len());
     let plan = plan(flags.len(), starts.len(), words / TOLD);
+    // By index: see `run_box`; the rows are the C interface's.
     for i in 0..plan.unwrap_or(0) {
         let ran = run_box(steps, d, a, flags, i, starts[i], budget);
         put_eight(answers, i, ran_told(ran));
@@ -231,6 +234,7 @@ fn ccr_after(x: bool, codes: Option<Flags>) -> u8
 
 // Reads a recipe text and runs it on a register set. `told` gets the refusal number, its text line, a mask of the flags
 // that are promised, the steps, the sum of their figures and the refusal's column. A flag that is not promised is left 0.
+// Rows and a byte as in `listing_run`: the C interface.
 pub fn recipe_run(
     text: &[u8],
     d: &mut [u32; 8],
@@ -243,6 +247,7 @@ pub fn recipe_run(
     let before = state_of(*d, *a, *flags);
     match run_text(text, before) {
         Ok(ran) => {
+            // By a pattern, as in `listing_run`.
             let RecipeRun {
                 d: new_d,
                 a: new_a,

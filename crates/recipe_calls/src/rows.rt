@@ -13,6 +13,8 @@ use step::runs::SLOTS;
 pub(crate) fn listing_of(words: &[u64]) -> Listing
     ensures { take result.count result.steps ≡ first_of words.now }
 {
+    // By index: of a `zip` with `iter_mut` a proof knows no element afterwards. Tried: `from_fn`, but of its closure, a `match`
+    // on `words.get(i)`, the check found no equation.
     let count = SLOTS.min(words.len());
     let mut steps = [no_step(); SLOTS];
     for (i, word) in words[..count].iter().enumerate() {
@@ -27,6 +29,7 @@ pub(crate) fn put_steps(steps: &[Step], listing: &mut [u64])
     requires { length steps.now ≤ length listing.old }
     ensures { listing.new ≡ over (map step_word steps.now) listing.old }
 {
+    // By index: tried with `zip` and `iter_mut`, of which a proof knows no element afterwards.
     for (i, step) in steps.iter().enumerate() {
         listing[i] = step_word(*step);
     }

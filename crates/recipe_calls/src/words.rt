@@ -12,6 +12,7 @@ use step::registers::{A, D};
 // A form's source.
 #[derive(Clone, Copy)]
 pub(crate) enum Source {
+    // Kind 0 of a step's word, a kind as the others are: the C interface (GRO_STEP of bindings/c/gromavelush.h).
     Absent,
     Small(u8),
     Data(D),

@@ -14,6 +14,7 @@ use replay::{Failure, Slip, replay};
 use std::io::Read;
 use std::{fmt, io};
 
+// Its own in each program that counts: what they count and tell differs, and one type for all of it is no plainer.
 #[derive(Clone, Copy, Default)]
 struct Tally {
     recipes: u64,
