@@ -83,7 +83,7 @@ pub fn fetch(listing: &[Step], at: usize, other: Step) -> Step
     listing.get(at).copied().unwrap_or(other)
 }
 
-// A step is written to a place of a listing; past the end, nothing is. By index: what stands behind a `get_mut` that is over, no proof knows.
+// A step is written to a place of a listing; past the end, nothing is. By index: no proof knows what stands behind a `get_mut`.
 pub fn store(listing: &mut [Step], at: usize, step: Step)
     ensures { listing.new ≡ slice_set listing.old at step }
 {

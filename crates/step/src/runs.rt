@@ -37,7 +37,7 @@ impl End {
     }
 }
 
-// What a run hands back, flat as document 01 lists it. `next` is the place to go on from; `clocks` is the sum of the steps' figures.
+// What a run hands back, flat as document 01 lists it. `next` is the place to go on from; `clocks` the sum of the steps' figures.
 // `Left` and `Boxed` say the same of registers that stay with the caller: compare/src/ported.rs has the layouts of all three.
 #[derive(Clone, Copy)]
 pub struct Ran {
@@ -59,7 +59,8 @@ pub struct Left {
 }
 
 // Where a run stands between two steps: whether it goes on, how the last step came out, the place behind it, the figures
-// so far, and the flags. The registers are not in it: each step is lent them. `going` holds the loop's one test (`run_in`).
+// so far, and the flags. The registers are not in it: each step is lent them. `going` is the loop's one test:
+// with the run's first apart from it, in `begin`, a step took 57.0, and 62.5 without (docs/PERFORMANCE.md).
 #[derive(Clone, Copy)]
 pub(crate) struct Course {
     pub going: bool,

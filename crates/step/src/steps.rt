@@ -1,6 +1,6 @@
 // One step: on registers that are lent, and by value. In a contract `within` and its like are the definitions of specs/,
 // not the functions. Where a comment says "tried", it counts instructions a step of the loop of a run, as `tools/one-loop` does of
-// code that is not proved yet (60.0 as it stands, 60.2 to 60.5 when most were tried), and what is more than 1 % slower is not taken.
+// code that is not proved yet (60.0 as it stands, 60.2 to 60.5 when most were tried); what is over 1 % slower is not taken.
 ghost use Rattle.std.specs.Prelude.{◌≡◌, ℕ, ◌<◌, ◌&&◌, List, slice_set};
 ghost use Rattle.alu.specs.Answers.{refigured, figure};
 ghost use Rattle.alu.specs.Shifts.{shift_of};
@@ -254,7 +254,7 @@ impl From<Came> for Outcome {
     }
 }
 
-// What a step says once the operation has answered. The flags go over one by one, here, in `refused` and in `stands` (moved whole, tried: 68.9).
+// What a step says once the operation has answered. The flags go over one by one, as in `refused`, `stands` (whole, tried: 68.9).
 fn said(came: Came, answer: Answer) -> Acted
     ensures { result ≡ said_of came answer }
 {
