@@ -9,10 +9,11 @@
 mod rows;
 mod words;
 
-ghost use Rattle.std.specs.Prelude.{◌≡◌, ◌+◌, ◌*◌, ◌<◌, ◌≤◌, length};
+ghost use Rattle.std.specs.Prelude.{[], ◌∷◌, ◌≡◌, ◌+◌, ◌*◌, ◌<◌, ◌≤◌, length};
 ghost use Rattle.step.specs.Perform.{perform_of};
 ghost use Rattle.step.specs.Run.{run_of, end_numbers};
 ghost use Rattle.text.specs.Wrote.{written, writing};
+ghost use Rattle.recipes.specs.Recipe.{number_of};
 ghost use Rattle.recipes.specs.Printer.{listing_text, answer_of};
 ghost use Rattle.recipe_calls.specs.Words.{first_of};
 ghost use Rattle.recipe_calls.specs.Calls.{row_left, state_of, state_left, rack_left, translation_told, translate_words, ran_told, run_words, rack_told, rack_words, promised_of, ccr_after, recipe_run_words};
@@ -34,6 +35,14 @@ use step::runs::{End, Ran};
 // How many numbers a call tells.
 pub const TOLD: usize = 8;
 
+// A refusal by its numbers: which it is, its text line and its column.
+fn numbers(refused: Refused) -> [u64; 3]
+    ensures { result ≡ number_of refused.refusal ∷ refused.line ∷ refused.column ∷ [] }
+{
+    let number = u64::from(u8::from(refused.refusal));
+    [number, refused.line as u64, refused.column as u64]
+}
+
 // What is told of a translation: how many steps it has, or why there is none.
 fn translation_told(made: Result<usize, Refused>) -> [u64; TOLD]
     ensures { result ≡ translation_told made }
@@ -41,9 +50,7 @@ fn translation_told(made: Result<usize, Refused>) -> [u64; TOLD]
     match made {
         Ok(steps) => [0, 0, steps as u64, 0, 0, 0, 0, 0],
         Err(refused) => {
-            let number = u64::from(u8::from(refused.refusal));
-            let line = refused.line as u64;
-            let column = refused.column as u64;
+            let [number, line, column] = numbers(refused);
             [number, line, 0, column, 0, 0, 0, 0]
         }
     }
@@ -262,9 +269,7 @@ pub fn recipe_run(
         Err(refused) => {
             *flags = u8::from(before.flags);
             let mask = u64::from(promised(Some(before.flags)));
-            let number = u64::from(u8::from(refused.refusal));
-            let line = refused.line as u64;
-            let column = refused.column as u64;
+            let [number, line, column] = numbers(refused);
             *told = [number, line, mask, 0, 0, column, 0, 0];
         }
     }
