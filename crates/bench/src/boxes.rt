@@ -5,6 +5,7 @@ ghost use Rattle.io.specs.Counts.{IsPrefixLen};
 
 use crate::course::Run;
 use crate::ending::{Ended, GoOn};
+use crate::ends::Ends;
 use crate::numbers::{Number, longs_of, put_numbering};
 use crate::pen::{Bits, NEWLINE, Pen, TAB};
 use crate::table::Sizes;
@@ -152,7 +153,8 @@ impl Rack<'_> {
     }
 
     // The boxes are counted before their words are looked at; each has a start place and a row.
-    fn put_rack<W: Write>(&self, to: &mut W, pen: &mut Pen, name: &[u8], file: &[u8]) {
+    fn put_rack<R, W: Write>(&self, ends: &mut Ends<'_, R, W>, name: &[u8], file: &[u8]) {
+        let pen = &mut ends.pen;
         let count = count_lines(file);
         let boxes = match plan(count, count, count) {
             Ok(boxes) => boxes,
@@ -167,26 +169,20 @@ impl Rack<'_> {
         let runs = &mut room[..boxes];
         match self.run_lines(file, runs) {
             Ok(()) => self.put_table(pen, runs),
-            Err(refused) => report_line(to, name, refused),
+            Err(refused) => report_line(ends.told, name, refused),
         }
     }
 
     // Word i of the program names the file. Nothing is printed, and the cause told, where the file can't be read or a line
     // is not understood.
-    pub(crate) fn put_run<R: Env + Files, W: Write>(
-        &self,
-        rt: &R,
-        to: &mut W,
-        pen: &mut Pen,
-        i: usize,
-    ) {
+    pub(crate) fn put_run<R: Env + Files, W: Write>(&self, ends: &mut Ends<'_, R, W>, i: usize) {
         let mut word = [0u8; WORD_ROOM];
-        let n = rt.arg(i, &mut word).unwrap_or(0);
+        let n = ends.rt.arg(i, &mut word).unwrap_or(0);
         let name = word[..n].strip_prefix(b"boxes=").unwrap_or(&[]);
         let mut file = [0u8; FILE_ROOM];
-        match read_file(rt, name, &mut file) {
-            Ok(n) => self.put_rack(to, pen, name, &file[..n]),
-            Err(cause) => report_unread(to, name, cause),
+        match read_file(ends.rt, name, &mut file) {
+            Ok(n) => self.put_rack(ends, name, &file[..n]),
+            Err(cause) => report_unread(ends.told, name, cause),
         }
     }
 }

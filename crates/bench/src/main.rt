@@ -9,6 +9,7 @@ mod boxes;
 mod carry;
 mod course;
 mod ending;
+mod ends;
 mod numbers;
 mod pen;
 mod rows;
@@ -17,7 +18,7 @@ mod table;
 mod words;
 
 use boxes::Rack;
-use course::Run;
+use ends::Ends;
 use input::read_text;
 use pen::Pen;
 use recipes::reader::read;
@@ -27,27 +28,8 @@ use slips::{put_refusal, put_slip};
 use std::env::Env;
 use std::io::Write;
 use std::rt::Files;
-use step::forms::Step;
 use table::Shown;
 use words::{View, Words, read_words, tell_failed};
-
-fn put_run<'a, R: Env + Files, W: Write>(
-    rt: &R,
-    to: &mut W,
-    pen: &mut Pen,
-    words: Words,
-    text: &'a [u8],
-    recipe: &'a Recipe,
-    listing: &'a [Step],
-) {
-    let asked = words.asked;
-    let run = Run { listing, asked };
-    match words.view {
-        View::Table => Shown { text, recipe, run }.put(pen),
-        View::Rows => rows::put_run(pen, run),
-        View::Boxes(i) => Rack { recipe, run }.put_run(rt, to, pen, i),
-    }
-}
 
 // Room for any answer: a table has a row of at most 151 bytes for each of `STEPS_MAX` steps and four more, and less than 3,000
 // bytes above and below them; plain rows are one more than the steps, of 158 bytes; 64 boxes have a row of at most 140 bytes and
@@ -61,14 +43,30 @@ fn translated(text: &[u8]) -> Result<(Recipe, Listing), Refused> {
     Ok((recipe, listing))
 }
 
-// The whole answer to a text.
-fn answer<R: Env + Files, W: Write>(rt: &R, to: &mut W, pen: &mut Pen, words: Words, text: &[u8]) {
-    match translated(text) {
-        Ok((recipe, listing)) => put_run(rt, to, pen, words, text, &recipe, listing.steps()),
-        Err(refused) => {
-            put_refusal(pen, refused);
-            if !matches!(words.view, View::Rows) {
-                put_slip(pen, text, refused);
+impl<R: Env + Files, W: Write> Ends<'_, R, W> {
+    // A run, as it is asked for.
+    fn put_view(&mut self, view: View, shown: Shown) {
+        let Shown { recipe, run, .. } = shown;
+        match view {
+            View::Table => shown.put(&mut self.pen),
+            View::Rows => rows::put_run(&mut self.pen, run),
+            View::Boxes(i) => Rack { recipe, run }.put_run(self, i),
+        }
+    }
+
+    // The whole answer to a text.
+    fn answer(&mut self, words: Words, text: &[u8]) {
+        let Words { asked, view } = words;
+        match translated(text) {
+            Ok((recipe, listing)) => {
+                let shown = Shown::new(text, &recipe, listing.steps(), asked);
+                self.put_view(view, shown);
+            }
+            Err(refused) => {
+                put_refusal(&mut self.pen, refused);
+                if !matches!(view, View::Rows) {
+                    put_slip(&mut self.pen, text, refused);
+                }
             }
         }
     }
@@ -88,9 +86,14 @@ fn main(rt: HostRuntime) {
         }
     };
     let mut out = [0u8; ROOM];
-    let mut pen = Pen::new(&mut out);
-    answer(&rt, &mut told, &mut pen, words, &text[..n]);
+    let mut ends = Ends {
+        rt: &rt,
+        told: &mut told,
+        pen: Pen::new(&mut out),
+    };
+    ends.answer(words, &text[..n]);
+    let Ends { told, pen, .. } = ends;
     if let Err(error) = rt.stdout().write_all(pen.written()) {
-        tell_failed(&mut told, b"bench: standard output", error);
+        tell_failed(told, b"bench: standard output", error);
     }
 }

@@ -5,6 +5,7 @@ use crate::course::{Done, Run, line_of};
 use crate::ending::{Settings, put_ending};
 use crate::numbers::{Number, longs_of, put_numbering};
 use crate::pen::{Bits, Counted, NEWLINE, Pen, TAB};
+use crate::words::Asked;
 use alu::types::Flags;
 use recipes::lines::target;
 use recipes::printer::print_step;
@@ -110,7 +111,17 @@ pub(crate) struct Shown<'a> {
     pub run: Run<'a>,
 }
 
-impl Shown<'_> {
+impl<'a> Shown<'a> {
+    pub(crate) fn new(
+        text: &'a [u8],
+        recipe: &'a Recipe,
+        listing: &'a [Step],
+        asked: Asked,
+    ) -> Shown<'a> {
+        let run = Run { listing, asked };
+        Shown { text, recipe, run }
+    }
+
     // What stands above the start.
     fn put_top(&self, pen: &mut Pen) {
         let width = self.recipe.width;

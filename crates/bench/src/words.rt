@@ -27,17 +27,7 @@ pub(crate) struct Asked {
 impl Default for Asked {
     fn default() -> Self {
         Asked {
-            state: State {
-                d: [0; 8],
-                a: [0; 8],
-                flags: Flags {
-                    x: false,
-                    n: false,
-                    z: false,
-                    v: false,
-                    c: false,
-                },
-            },
+            state: State::default(),
             from: 0,
             steps: u32::MAX,
         }
