@@ -22,7 +22,7 @@ use Rattle.recipes.proofs.Places.{number_fits, line_at, lined_at}
 -- ---- a line
 
 -- its steps are among the eight registers, and each has a small number
-pub line_spot : (w : ℕ) (l : Line) (slots j : ℕ) → Slotted w l slots → j < slots → StepOfJob w (job_of w l) j
+pub line_spot : (w : ℕ) (l : Line) (slots j : ℕ) → Slotted w l slots → j < slots → StepOfJob (job_of w l) j
 line_spot w l slots j s h = (number_fits w _ s.named.source, (number_fits w _ s.named.goal, let a = s.all in omega arith))
 
 -- what is written to its slots
@@ -30,7 +30,7 @@ module _ (w : ℕ) (l : Line) (n : ℕ) (old : List Step) (s : Slotted w l (leng
   abbrev lined : List Step
   lined = map (with_line n) (line_steps w l)
 
-  pub line_next : (j : ℕ) (k : Step) → j < length old → k ≡ with_line n (job_step w (job_of w l) j) → set (over (take j lined) old) j k ≡ over (take (j + 1) lined) old
+  pub line_next : (j : ℕ) (k : Step) → j < length old → k ≡ with_line n (job_step (job_of w l) j) → set (over (take j lined) old) j k ≡ over (take (j + 1) lined) old
   line_next j k h e =
       let one : j + 1 ≡ suc j = omega arith in
       let all = s.all in

@@ -114,7 +114,7 @@ cut w s j h l =
     let m : j < w * s = omega arith in
     record { index = (div-lt_iff_lt-mul h).1 m; part = mod-lt j h; whole = omega arith }
 
-pub line_at : (w : ℕ) (l : Line) (j : ℕ) → j < steps_at l.verb * w → job_step w (job_of w l) j ≡ get_or (line_steps w l) j blank
+pub line_at : (w : ℕ) (l : Line) (j : ℕ) → j < steps_at l.verb * w → job_step (job_of w l) j ≡ get_or (line_steps w l) j blank
 unfolding line_steps
 line_at w l j h =
     let s = steps_at l.verb in

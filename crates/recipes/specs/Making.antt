@@ -43,18 +43,18 @@ offset_of way w i = cond way.falls (w - 1 - i) i
 
 -- what the steps of a line have in common
 abbrev pub job_of : (w : ℕ) → Line → Job
-job_of w l = record { way = way_of l.verb; from = l.a * w; to = target l * w }
+job_of w l = record { width = w; way = way_of l.verb; from = l.a * w; to = target l * w }
 
 -- step j
-abbrev pub job_step : (w : ℕ) → Job → (j : ℕ) → Step
-job_step w b j =
+abbrev pub job_step : Job → (j : ℕ) → Step
+job_step b j =
     let s = steps_by b.way in
-    let at = offset_of b.way w (j / s) in
+    let at = offset_of b.way b.width (j / s) in
     step_of (act_at b.way (eqb (j / s) 0) (j % s)) (b.from + at) (b.to + at)
 
 -- there is one, and its registers are among the eight
-abbrev pub StepOfJob : (w : ℕ) → Job → (j : ℕ) → Type 0
-StepOfJob w b j = (b.from + w ≤ 8) × ((b.to + w ≤ 8) × (j < steps_by b.way * w))
+abbrev pub StepOfJob : Job → (j : ℕ) → Type 0
+StepOfJob b j = (b.from + b.width ≤ 8) × ((b.to + b.width ≤ 8) × (j < steps_by b.way * b.width))
 
 -- ---- what the translator tells
 

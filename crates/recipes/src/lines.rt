@@ -42,16 +42,18 @@ pub(crate) fn unused() -> Line
     }
 }
 
-fn row(takes_two: bool, clears: bool, first: Act, other: Act, falls: bool, tells: bool) -> Way
-    ensures { result ≡ way takes_two clears first other falls tells }
-{
-    Way {
-        takes_two,
-        clears,
-        first,
-        other,
-        falls,
-        tells,
+impl Way {
+    fn of(takes_two: bool, clears: bool, first: Act, other: Act, falls: bool, tells: bool) -> Way
+        ensures { result ≡ way takes_two clears first other falls tells }
+    {
+        Way {
+            takes_two,
+            clears,
+            first,
+            other,
+            falls,
+            tells,
+        }
     }
 }
 
@@ -60,15 +62,15 @@ pub(crate) fn way_of(verb: Verb) -> Way
     ensures { result ≡ way_of verb }
 {
     match verb {
-        Verb::Clear => row(false, false, One(Clr), One(Clr), false, false),
-        Verb::Copy => row(true, true, Two(Add), Two(Add), false, false),
-        Verb::Add => row(true, false, Two(Add), Two(Addx), false, true),
-        Verb::Sub => row(true, false, Two(Sub), Two(Subx), false, true),
-        Verb::Neg => row(false, false, One(Neg), One(Negx), false, true),
-        Verb::Not => row(false, false, One(Not), One(Not), false, false),
-        Verb::Halve => row(false, false, Shift(Asr), Shift(Roxr), true, false),
-        Verb::Down => row(false, false, Shift(Lsr), Shift(Roxr), true, false),
-        Verb::Up => row(false, false, Shift(Lsl), Shift(Roxl), false, false),
+        Verb::Clear => Way::of(false, false, One(Clr), One(Clr), false, false),
+        Verb::Copy => Way::of(true, true, Two(Add), Two(Add), false, false),
+        Verb::Add => Way::of(true, false, Two(Add), Two(Addx), false, true),
+        Verb::Sub => Way::of(true, false, Two(Sub), Two(Subx), false, true),
+        Verb::Neg => Way::of(false, false, One(Neg), One(Negx), false, true),
+        Verb::Not => Way::of(false, false, One(Not), One(Not), false, false),
+        Verb::Halve => Way::of(false, false, Shift(Asr), Shift(Roxr), true, false),
+        Verb::Down => Way::of(false, false, Shift(Lsr), Shift(Roxr), true, false),
+        Verb::Up => Way::of(false, false, Shift(Lsl), Shift(Roxl), false, false),
     }
 }
 

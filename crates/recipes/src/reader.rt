@@ -144,7 +144,7 @@ fn read_width(row: &[u8]) -> Option<u8>
 }
 
 // The lines after the width line. Line `count` of a recipe, from 0, is text line `count` + 2.
-// By `left`: `split_inclusive` was tried, and that its pieces are `before` and `after` did not close; std's `slice_split_part` is of `split`.
+// By `left`: a `for` over `split_inclusive` was tried, and neither the returns nor the loop's turn closed: std has lemmas of the pieces of `split` alone.
 fn read_lines(width: u8, text: &[u8]) -> Result<Recipe, Refused>
     requires { 0 < width }
     ensures { result ≡ lines_of width [] (before 10 text.now) (after 10 text.now) }

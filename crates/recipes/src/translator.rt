@@ -6,20 +6,21 @@ ghost use Rattle.recipes.specs.Recipe.{lines_max};
 ghost use Rattle.step.specs.Lent.{over};
 ghost use Rattle.step.specs.Lines.{with_line};
 ghost use Rattle.step.specs.Run.{array_slots};
-ghost use Rattle.recipes.specs.Listing.{long, form_of, step_of, blank, blanks, line_steps, numbered_of, array_of, at_rest, figure_of, clocks_of};
+ghost use Rattle.recipes.specs.Listing.{long, form_of, step_of, blank, blanks, line_steps, numbered_of, array_of, figure_of, clocks_of};
 ghost use Rattle.recipes.specs.Making.{act_at, offset_of, steps_by, job_of, job_step, StepOfJob, judge_of, judge_lines, Slotted, Layable};
 
 use super::lines::{Act, Way, check_line, goal, is_width, way_of};
 use super::types::{LINES_MAX, Line, Listing, Recipe, Refusal, Refused, at_line};
-use alu::types::{Flags, Size};
+use alu::types::Size;
 use step::forms::{Count, Form, OneOp, Step, with_line};
 use step::registers::{D, State};
 use step::runs::SLOTS;
 use step::steps::perform;
 
-// What the steps of a line have in common: its way, and the lowest registers of its numbers.
+// What the steps of a line have in common: the width, its way, and the lowest registers of its numbers.
 #[derive(Clone, Copy)]
 pub(crate) struct Job {
+    pub width: u8,
     pub way: Way,
     pub from: usize,
     pub to: usize,
@@ -70,55 +71,59 @@ fn act_at(way: Way, first: bool, part: usize) -> Act
     if first { way.first } else { way.other }
 }
 
-// Which of a number's registers is the one taken at `index`, from 0.
-fn offset(way: Way, width: u8, index: usize) -> usize
-    requires { index < width }
-    ensures { (result ≡ offset_of way width index) × (result < width) }
-{
-    if way.falls {
-        width as usize - 1 - index
-    } else {
-        index
+impl Job {
+    fn of(width: u8, line: Line) -> Job
+        ensures { result ≡ job_of width line }
+    {
+        let way = way_of(line.verb);
+        Job {
+            width,
+            way,
+            from: line.a as usize * width as usize,
+            to: goal(way, line) as usize * width as usize,
+        }
     }
-}
 
-// Step j of a line: the index of the register that it is at, and its part of the steps there.
-fn spot_of(way: Way, j: usize) -> (usize, usize)
-    ensures { result ≡ (j / steps_by way, j % steps_by way) }
-{
-    if way.clears { (j / 2, j % 2) } else { (j, 0) }
-}
-
-// The steps that a line takes.
-fn steps_of(width: u8, way: Way) -> usize
-    ensures { (result ≡ steps_by way * width) × (result ≤ 2 * width) }
-{
-    let steps = width as usize;
-    if way.clears { 2 * steps } else { steps }
-}
-
-// What the steps of a line have in common.
-fn job_of(width: u8, line: Line) -> Job
-    ensures { result ≡ job_of width line }
-{
-    let way = way_of(line.verb);
-    Job {
-        way,
-        from: line.a as usize * width as usize,
-        to: goal(way, line) as usize * width as usize,
+    // The steps that the line takes.
+    fn steps(self) -> usize
+        ensures { (result ≡ steps_by self.way * self.width) × (result ≤ 2 * self.width) }
+    {
+        let steps = self.width as usize;
+        if self.way.clears { 2 * steps } else { steps }
     }
-}
 
-// Step j of a line.
-fn line_step(width: u8, job: Job, j: usize) -> Step
-    requires { StepOfJob width job j }
-    ensures { result ≡ job_step width job j }
-{
-    let way = job.way;
-    let (index, part) = spot_of(way, j);
-    let at = offset(way, width, index);
-    let act = act_at(way, index == 0, part);
-    step_of(act, (job.from + at) as u8, (job.to + at) as u8)
+    // Which of a number's registers is the one taken at `index`, from 0.
+    fn offset(self, index: usize) -> usize
+        requires { index < self.width }
+        ensures { (result ≡ offset_of self.way self.width index) × (result < self.width) }
+    {
+        if self.way.falls {
+            self.width as usize - 1 - index
+        } else {
+            index
+        }
+    }
+
+    // Step j: the index of the register that it is at, and its part of the steps there.
+    fn spot(self, j: usize) -> (usize, usize)
+        ensures { result ≡ (j / steps_by self.way, j % steps_by self.way) }
+    {
+        if self.way.clears {
+            (j / 2, j % 2)
+        } else {
+            (j, 0)
+        }
+    }
+
+    fn step(self, j: usize) -> Step
+        requires { StepOfJob self j }
+        ensures { result ≡ job_step self j }
+    {
+        let (index, part) = self.spot(j);
+        let at = self.offset(index);
+        let act = act_at(self.way, index == 0, part);
+        step_of(act, (self.from + at) as u8, (self.to + at) as u8)
+    }
 }
 
 // The tests of the lines in turn, and the steps that they take together. Line k, from 0, is text line k + 2.
@@ -130,7 +135,7 @@ fn judge_lines(width: u8, lines: &[Line]) -> Result<usize, Refused>
     let mut steps = 0;
     for (k, line) in lines.iter().enumerate() {
         check_line(numbers, *line).map_err(move |refusal| at_line(refusal, k + 2))?;
-        steps += steps_of(width, way_of(line.verb));
+        steps += Job::of(width, *line).steps();
     }
     Ok(steps)
 }
@@ -153,9 +158,9 @@ fn lay_line(width: u8, line: Line, text_line: u8, slots: &mut [Step])
     requires { Slotted width line (length slots.old) }
     ensures { slots.new ≡ map (with_line text_line) (line_steps width line) }
 {
-    let job = job_of(width, line);
+    let job = Job::of(width, line);
     for (j, slot) in slots.iter_mut().enumerate() {
-        *slot = with_line(line_step(width, job, j), text_line);
+        *slot = with_line(job.step(j), text_line);
     }
 }
 
@@ -168,7 +173,7 @@ fn lay(width: u8, lines: &[Line]) -> [Step; SLOTS]
     let mut steps = [blank(); SLOTS];
     let mut at = 0;
     for (k, line) in lines.iter().enumerate() {
-        let end = at + steps_of(width, way_of(line.verb));
+        let end = at + Job::of(width, *line).steps();
         lay_line(width, *line, k as u8 + 2, &mut steps[at..end]);
         at = end;
     }
@@ -186,29 +191,11 @@ pub fn translate_array(recipe: Recipe) -> Result<Listing, Refused>
     })
 }
 
-// All registers 0, all flags clear.
-fn at_rest() -> State
-    ensures { result ≡ at_rest }
-{
-    State {
-        d: [0; 8],
-        a: [0; 8],
-        flags: Flags {
-            x: false,
-            n: false,
-            z: false,
-            v: false,
-            c: false,
-        },
-    }
-}
-
 // The clock figure of a step, asked of the machine. A step of a recipe has the same figure whatever the registers hold.
-#[tactic(auto, unfolding(crate::specs::Listing::figure_of))]
 fn figure(step: Step) -> u64
     ensures { (result ≡ figure_of step) × (result < 2 ^ 32) }
 {
-    u64::from(perform(at_rest(), step).clocks)
+    u64::from(perform(State::default(), step).clocks)
 }
 
 pub(crate) fn clocks(steps: &[Step]) -> u64

@@ -23,7 +23,7 @@ pub loop-k-preserved : goal.loop-k-preserved
 loop-k-preserved c =
     let small = c.requires.1.0 in
     passed_more _ _ _ _ c.loop-k.invariant _ _ c.loop-k-test.true (sym c.check_line.ensures ∙ mapped_ok _ _ _ _ c.map_err.ensures.cases c.in_ok-map_err.was)
-    (rw c.way_of.ensures at c.steps_of-steps.ensures.0) (omega (arith, c.steps_of-steps.ensures.1, small))
+    (rw c.of.ensures at c.steps-steps.ensures.0) (let most = rw c.of.ensures at c.steps-steps.ensures.1 in omega (arith, most, small))
 
 pub returns : goal.returns
 returns c = passed_all _ _ _ _ c.loop-k.invariant c.loop-k-test.false
