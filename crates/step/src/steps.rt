@@ -1,6 +1,6 @@
 // One step: on registers that are lent, and by value. In a contract `within` and its like are the definitions of specs/,
 // not the functions. Where a comment says "tried", it counts instructions a step of the loop of a run, as `tools/one-loop` does of
-// code that is not proved yet (60.0 as it stands, 60.2 to 60.5 when most were tried); what is over 1 % slower is not taken.
+// code that is not proved yet (60.2 to 60.5 when most were tried); what is over 1 % slower is not taken. As it ships it takes 58.5.
 ghost use Rattle.std.specs.Prelude.{◌≡◌, ℕ, ◌<◌, ◌&&◌, List, slice_set};
 ghost use Rattle.alu.specs.Answers.{refigured, figure};
 ghost use Rattle.alu.specs.Shifts.{shift_of};
