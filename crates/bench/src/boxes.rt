@@ -7,7 +7,7 @@ use crate::course::Run;
 use crate::ending::{Ended, GoOn};
 use crate::ends::Ends;
 use crate::numbers::{Number, longs_of, put_numbering};
-use crate::pen::{Bits, NEWLINE, Pen, TAB};
+use crate::pen::{BLANK, Bits, NEWLINE, Pen, TAB};
 use crate::table::Sizes;
 use crate::words::{Asked, Given, NotTaken, WORD_ROOM, report, tell, tell_failed};
 use input::read_text;
@@ -65,7 +65,7 @@ enum Unread {
 // What a box's line asks for. Its line end is no word.
 fn read_line(line: &[u8], asked: Asked) -> Result<Asked, BadWord<'_>> {
     let mut given = Given::default();
-    for word in line.split(|b| matches!(*b, b' ' | TAB | NEWLINE)) {
+    for word in line.split(|b| matches!(*b, BLANK | TAB | NEWLINE)) {
         if !word.is_empty() {
             given.take(word).map_err(|why| BadWord { word, why })?;
         }

@@ -1,5 +1,5 @@
 // How a run ended; of one that halted, the words to go on with.
-use crate::pen::{Counted, Pen};
+use crate::pen::{Counted, Hex, Pen};
 use alu::types::Flags;
 use std::fmt;
 use step::registers::State;
@@ -14,7 +14,7 @@ impl fmt::Display for Settings {
         let Settings(letter, registers) = *self;
         for (r, value) in registers.iter().enumerate() {
             if *value != 0 {
-                write!(f, " {letter}{r}={value:08X}")?;
+                write!(f, " {letter}{r}={}", Hex(*value))?;
             }
         }
         Ok(())

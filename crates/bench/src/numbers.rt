@@ -1,7 +1,7 @@
 // The numbers of a recipe, by width: which registers they are, their long words, and their whole value in decimal.
 ghost use Rattle.std.specs.Prelude.{◌<◌};
 
-use crate::pen::Pen;
+use crate::pen::{Hex, Pen};
 use std::fmt;
 
 // How many long words a number has at a width.
@@ -39,7 +39,7 @@ impl Number<'_> {
 impl fmt::Display for Number<'_> {
     fn fmt<W: fmt::Write>(&self, f: &mut fmt::Formatter<W>) -> fmt::Result {
         for long in self.0.iter().rev() {
-            write!(f, " {long:08X}")?;
+            write!(f, " {}", Hex(*long))?;
         }
         Ok(())
     }

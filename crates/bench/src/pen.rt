@@ -3,7 +3,8 @@ ghost use Rattle.std.specs.Prelude.{◌≤◌, length};
 
 use alu::types::Flags;
 use std::fmt;
-pub(crate) use text::types::{NEWLINE, TAB};
+use text::numbers::hex;
+pub(crate) use text::types::{BLANK, NEWLINE, TAB};
 use text::writers::Writer;
 
 // A writer, and the place where its line begins.
@@ -44,9 +45,9 @@ impl<'a> Pen<'a> {
 
     // A blank, and what stands in a line of a text, counted from 1: with blanks for its tabs.
     pub(crate) fn put_text_line(&mut self, text: &[u8], line: u8) {
-        self.put_byte(b' ');
+        self.put_byte(BLANK);
         for b in line_at(text, usize::from(line).saturating_sub(1)) {
-            self.put_byte(if *b == TAB { b' ' } else { *b });
+            self.put_byte(if *b == TAB { BLANK } else { *b });
         }
     }
 
@@ -58,7 +59,7 @@ impl<'a> Pen<'a> {
     // Blanks up to a column of the line; none where it is reached.
     pub(crate) fn tab(&mut self, column: usize) {
         for _ in self.column()..column {
-            self.put_byte(b' ');
+            self.put_byte(BLANK);
         }
     }
 
@@ -77,6 +78,19 @@ impl<'a> Pen<'a> {
 impl fmt::Write for Pen<'_> {
     fn write_str(&mut self, s: &str) -> fmt::Result {
         self.put(s.as_bytes());
+        Ok(())
+    }
+}
+
+// Eight digits, those of text's `hex`.
+#[derive(Clone, Copy)]
+pub(crate) struct Hex(pub u32);
+
+impl fmt::Display for Hex {
+    fn fmt<W: fmt::Write>(&self, f: &mut fmt::Formatter<W>) -> fmt::Result {
+        for digit in hex(self.0) {
+            f.write_char(char::from(digit))?;
+        }
         Ok(())
     }
 }

@@ -11,6 +11,9 @@ const SHOWN: usize = 60;
 
 const BEFORE: usize = 40;
 
+// Room for that start of a line, with dots.
+pub(crate) const START_ROOM: usize = SHOWN + 2;
+
 // Room for a refusal by its numbers: a word, and three numbers of at most 20 digits. (There is no heap for a `String`.)
 const REFUSAL_ROOM: usize = 80;
 

@@ -4,7 +4,7 @@ use crate::carry::put_carries;
 use crate::course::{Done, Run, line_of};
 use crate::ending::{Settings, put_ending};
 use crate::numbers::{Number, longs_of, put_numbering};
-use crate::pen::{Bits, Counted, NEWLINE, Pen, TAB};
+use crate::pen::{Bits, Counted, Hex, NEWLINE, Pen, TAB};
 use crate::words::Asked;
 use alu::types::Flags;
 use recipes::lines::target;
@@ -98,7 +98,7 @@ fn put_changed(pen: &mut Pen, before: &[u32; 8], after: &[u32; 8]) {
     pen.tab(CHANGED);
     let mut registers = before.iter().zip(after).enumerate();
     match registers.find(|(_, (old, new))| old != new) {
-        Some((r, (_, value))) => write!(pen, "D{r} {value:08X}"),
+        Some((r, (_, value))) => write!(pen, "D{r} {}", Hex(*value)),
         None => write!(pen, "-"),
     }
 }

@@ -1,11 +1,11 @@
 // The words that the program is started with, and those of a box's line (boxes.rt).
 ghost use Rattle.std.specs.Prelude.{◌≤◌};
 
-use crate::slips::Start;
+use crate::pen::Pen;
+use crate::slips::{START_ROOM, Start};
 use alu::types::Flags;
 use input::{LINE_MAX, failure_line};
 use std::env::{Env, FillError};
-use std::fmt;
 use std::io::{Error, Write};
 use step::registers::State;
 
@@ -50,19 +50,10 @@ pub(crate) struct Words {
 }
 
 // Why a word is not taken.
-#[derive(Clone, Copy, PartialEq, Eq)]
+#[derive(Clone, Copy)]
 pub(crate) enum NotTaken {
     Unknown,
     Again,
-}
-
-impl fmt::Display for NotTaken {
-    fn fmt<W: fmt::Write>(&self, f: &mut fmt::Formatter<W>) -> fmt::Result {
-        match self {
-            NotTaken::Unknown => write!(f, "is not understood"),
-            NotTaken::Again => write!(f, "is a second word for the same thing: each is given once"),
-        }
-    }
 }
 
 // What the words of a box give.
@@ -232,16 +223,26 @@ pub(crate) fn tell_failed<W: Write>(to: &mut W, what: &[u8], error: Error) {
 }
 
 // Says why a word was not taken, which is made visible as a refused line is, and what may stand there beside the words of a
-// box. Where it stands is said before.
+// box. Where it stands is said before. The word goes out in one piece: standard error has no buffer.
 pub(crate) fn report<W: Write>(to: &mut W, word: &[u8], why: NotTaken, others: &str) {
-    let _ = write!(to, "{} {why}", Start(word));
-    if why == NotTaken::Unknown {
-        let _ = write!(
+    let mut seen = [0u8; START_ROOM];
+    let mut pen = Pen::new(&mut seen);
+    write!(pen, "{}", Start(word));
+    tell(to, pen.written());
+    match why {
+        NotTaken::Again => tell(
             to,
-            ": D0=HEX..D7=HEX, A0=HEX..A7=HEX, X= N= Z= V= C= 0 or 1, from=PLACE{others}"
-        );
+            b" is a second word for the same thing: each is given once\n",
+        ),
+        NotTaken::Unknown => {
+            tell(
+                to,
+                b" is not understood: D0=HEX..D7=HEX, A0=HEX..A7=HEX, X= N= Z= V= C= 0 or 1, from=PLACE",
+            );
+            tell(to, others.as_bytes());
+            tell(to, b"\n");
+        }
     }
-    tell(to, b"\n");
 }
 
 // All words; reading ends at the first that is not taken, which is reported. Word 0 is the program's own name.

@@ -5,3 +5,5 @@ mod Telling
 pub mod Round
 pub mod Agree
 pub mod Determined
+mod Turns
+pub mod Untold

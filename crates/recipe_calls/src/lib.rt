@@ -25,12 +25,13 @@ use recipes::reader::read;
 use recipes::runner::{answer, run_text};
 use recipes::translator::translate_array;
 use recipes::types::{RecipeRun, Refusal, Refused, at_line};
-use rows::{eight_at, listing_of, put_eight, put_steps};
+use rows::{eight_at, put_eight, put_steps, steps_of};
 use step::forms::Step;
 use step::lent::run;
 use step::racks::{TooManyBoxes, plan};
 use step::registers::State;
-use step::runs::{End, Ran};
+use step::runs::{End, Ran, SLOTS};
+use words::no_step;
 
 // How many numbers a call tells.
 pub const TOLD: usize = 8;
@@ -133,7 +134,8 @@ pub fn listing_run(
     ensures { state_left d.new a.new flags.new told.new ≡ run_words listing.now d.old a.old flags.old start budget }
 {
     let before = state_of(*d, *a, *flags);
-    let ran = run(listing_of(listing).steps(), before, start, budget);
+    let mut slots = [no_step(); SLOTS];
+    let ran = run(steps_of(listing, &mut slots), before, start, budget);
     // By a pattern: the borrow checker covers no `*d = ran.state.d` where the field is an array.
     let State {
         d: new_d,
@@ -162,9 +164,15 @@ fn run_box(
 {
     let before = state_of(eight_at(d, i), eight_at(a, i), flags[i]);
     let ran = run(steps, before, start, budget);
-    put_eight(d, i, ran.state.d);
-    put_eight(a, i, ran.state.a);
-    flags[i] = u8::from(ran.state.flags);
+    // By a pattern, as in `listing_run`.
+    let State {
+        d: new_d,
+        a: new_a,
+        flags: new_flags,
+    } = ran.state;
+    put_eight(d, i, new_d);
+    put_eight(a, i, new_a);
+    flags[i] = u8::from(new_flags);
     ran
 }
 
@@ -193,8 +201,8 @@ pub fn rack_run(
 )
     ensures { rack_left d.new a.new flags.new answers.new told.new ≡ rack_words listing.now d.old a.old flags.old starts.now budget answers.old }
 {
-    let made = listing_of(listing);
-    let steps = made.steps();
+    let mut slots = [no_step(); SLOTS];
+    let steps = steps_of(listing, &mut slots);
     let words = d.len().min(a.len()).min(answers.len());
     let plan = plan(flags.len(), starts.len(), words / TOLD);
     // By index: see `run_box`; the rows are the C interface's.
@@ -209,7 +217,8 @@ pub fn rack_run(
 pub fn listing_print(width: u8, listing: &[u64], out: &mut [u8]) -> usize
     ensures { written out.new result ≡ writing out.old 0 (listing_text width (first_of listing.now)) }
 {
-    print(width, listing_of(listing).steps(), out)
+    let mut slots = [no_step(); SLOTS];
+    print(width, steps_of(listing, &mut slots), out)
 }
 
 // What the program `recipe` prints for the text that it read.

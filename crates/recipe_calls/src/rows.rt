@@ -9,18 +9,18 @@ use recipes::types::Listing;
 use step::forms::Step;
 use step::runs::SLOTS;
 
-// The steps that the first `SLOTS` words of a listing name; in the slots behind them, steps that are refused.
-pub(crate) fn listing_of(words: &[u64]) -> Listing
-    ensures { take result.count result.steps ≡ first_of words.now }
+// The steps that the first `SLOTS` words of a listing name, made in slots that are lent: a `Listing` by value is copied once more, and
+// takes its bytes of stack twice.
+pub(crate) fn steps_of<'a>(words: &[u64], slots: &'a mut [Step; SLOTS]) -> &'a [Step]
+    ensures { result.now ≡ first_of words.now }
 {
     // By index: of a `zip` with `iter_mut` a proof knows no element afterwards. Tried: `from_fn`, but of its closure, a `match`
     // on `words.get(i)`, the check found no equation.
     let count = SLOTS.min(words.len());
-    let mut steps = [no_step(); SLOTS];
     for (i, word) in words[..count].iter().enumerate() {
-        steps[i] = step_of(*word);
+        slots[i] = step_of(*word);
     }
-    Listing { count, steps }
+    &slots[..count]
 }
 
 // The words of steps go to the front of a listing.
@@ -40,8 +40,11 @@ pub(crate) fn eight_at(row: &[u32], i: usize) -> [u32; 8]
     requires { 8 * i + 8 ≤ length row.now }
     ensures { result ≡ eight_at i row.now }
 {
+    // By index, as in `put_eight`: with `copy_from_slice` a rack of short runs takes a quarter more instructions.
     let mut words = [0; 8];
-    words.copy_from_slice(&row[8 * i..8 * i + 8]);
+    for j in 0..8 {
+        words[j] = row[8 * i + j];
+    }
     words
 }
 
@@ -50,5 +53,7 @@ pub(crate) fn put_eight<T: Copy>(row: &mut [T], i: usize, words: [T; 8])
     requires { 8 * i + 8 ≤ length row.old }
     ensures { row.new ≡ eight_put i words row.old }
 {
-    row[8 * i..8 * i + 8].copy_from_slice(&words);
+    for j in 0..8 {
+        row[8 * i + j] = words[j];
+    }
 }

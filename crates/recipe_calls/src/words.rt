@@ -1,6 +1,6 @@
 // A step as one number, laid out as `specs/Words.antt` says. An operation has the number by which `alu_call` knows it.
 // In a contract a name is the definition of specs/, not the function here.
-ghost use Rattle.std.specs.Prelude.{◌≡◌};
+ghost use Rattle.std.specs.Prelude.{◌≡◌, option_and_then};
 ghost use Rattle.recipe_calls.specs.Words.{source_at, kind_of, number_in, of_register, of_count, made_of, no_step, named, step_of};
 ghost use Rattle.recipe_calls.specs.Words.{size_number, register_number, source_of, destination_number, step_word};
 
@@ -9,10 +9,19 @@ use calls::size_of;
 use step::forms::{Count, Form, Operation, Register, Step, operation_at, operation_of, with_line};
 use step::registers::{A, D};
 
+// The kinds of a source. Kinds and sizes are numbers in a step's word alone: the C interface (GRO_STEP of
+// bindings/c/gromavelush.h).
+const NONE: u8 = 0;
+
+const SMALL: u8 = 1;
+
+const DATA: u8 = 2;
+
+const ADDRESS: u8 = 3;
+
 // A form's source.
 #[derive(Clone, Copy)]
 pub(crate) enum Source {
-    // Kind 0 of a step's word, a kind as the others are: the C interface (GRO_STEP of bindings/c/gromavelush.h).
     Absent,
     Small(u8),
     Data(D),
@@ -20,59 +29,53 @@ pub(crate) enum Source {
 }
 
 impl Source {
-    // A source by its kind and its number, if that is a kind. Kinds and sizes are numbers in a step's word alone: the C interface
-    // (GRO_STEP of bindings/c/gromavelush.h).
-    fn at(kind: u8, number: u8) -> Option<Source>
-        ensures { result ≡ source_at kind number }
-    {
-        match kind {
-            0 => Some(Source::Absent),
-            1 => Some(Source::Small(number)),
-            2 => Some(Source::Data(D(number))),
-            3 => Some(Source::Address(A(number))),
-            _ => None,
-        }
-    }
-
     fn kind_and_number(self) -> (u8, u8)
         ensures { result ≡ (kind_of self, number_in self) }
     {
         match self {
-            Source::Absent => (0, 0),
-            Source::Small(k) => (1, k),
-            Source::Data(d) => (2, d.0),
-            Source::Address(a) => (3, a.0),
+            Source::Absent => (NONE, 0),
+            Source::Small(k) => (SMALL, k),
+            Source::Data(d) => (DATA, d.0),
+            Source::Address(a) => (ADDRESS, a.0),
         }
     }
 }
 
 // ---- from a word to a step
 
-// The form of an operation with a source and a destination, if they make one.
-fn form_of(operation: Operation, source: Source, destination: u8) -> Option<Form>
-    ensures { result ≡ made_of operation source destination }
+// The form of an operation with a source of this kind and number and a destination, if they make one. By the kind's number: where a
+// `Source` is made of it first, reading a word takes a quarter more instructions.
+fn form_of(operation: Operation, kind: u8, source: u8, destination: u8) -> Option<Form>
+    ensures { result ≡ option_and_then (λ s. made_of operation s destination) (source_at kind source) }
 {
+    let p = D(source);
     let q = D(destination);
     let a = A(destination);
-    match (operation, source) {
-        (Operation::Two(op), Source::Data(p)) => Some(Form::Two(op, p, q)),
-        (Operation::Address(op), Source::Data(p)) => {
-            Some(Form::Address(op, Register::Data(p), a))
+    match operation {
+        Operation::Two(op) => (kind == DATA).then_some(Form::Two(op, p, q)),
+        Operation::Address(op) => match kind {
+            DATA => Some(Form::Address(op, Register::Data(p), a)),
+            ADDRESS => Some(Form::Address(op, Register::Address(A(source)), a)),
+            _ => None,
+        },
+        Operation::Quick(op) => {
+            (kind == SMALL).then_some(Form::Quick(op, source, Register::Data(q)))
         }
-        (Operation::Address(op), Source::Address(p)) => {
-            Some(Form::Address(op, Register::Address(p), a))
+        Operation::QuickAddress(op) => {
+            (kind == SMALL).then_some(Form::Quick(op, source, Register::Address(a)))
         }
-        (Operation::Quick(op), Source::Small(k)) => Some(Form::Quick(op, k, Register::Data(q))),
-        (Operation::QuickAddress(op), Source::Small(k)) => {
-            Some(Form::Quick(op, k, Register::Address(a)))
-        }
-        (Operation::One(op), Source::Absent) => Some(Form::One(op, q)),
-        (Operation::Shift(op), Source::Small(k)) => Some(Form::Shift(op, Count::Small(k), q)),
-        (Operation::Shift(op), Source::Data(p)) => Some(Form::Shift(op, Count::Data(p), q)),
-        (Operation::Bit(op), Source::Small(k)) => Some(Form::Bit(op, Count::Small(k), q)),
-        (Operation::Bit(op), Source::Data(p)) => Some(Form::Bit(op, Count::Data(p), q)),
-        (Operation::Chk, Source::Data(p)) => Some(Form::Chk(p, q)),
-        _ => None,
+        Operation::One(op) => (kind == NONE).then_some(Form::One(op, q)),
+        Operation::Shift(op) => match kind {
+            SMALL => Some(Form::Shift(op, Count::Small(source), q)),
+            DATA => Some(Form::Shift(op, Count::Data(p), q)),
+            _ => None,
+        },
+        Operation::Bit(op) => match kind {
+            SMALL => Some(Form::Bit(op, Count::Small(source), q)),
+            DATA => Some(Form::Bit(op, Count::Data(p), q)),
+            _ => None,
+        },
+        Operation::Chk => (kind == DATA).then_some(Form::Chk(p, q)),
     }
 }
 
@@ -88,14 +91,13 @@ pub(crate) fn no_step() -> Step
 }
 
 // The step that the bytes of a word name, if they name one; its line is not among them.
-#[tactic(auto, using(crate::proofs::Naming::low), unfolding(crate::specs::Words::named))]
+#[tactic(auto, using(crate::proofs::Naming::low, crate::proofs::Naming::whole), unfolding(crate::specs::Words::named))]
 fn named(word: u64) -> Option<Step>
     ensures { result ≡ named word }
 {
     let [operation, size, kind, source, destination, _, _, _] = word.to_le_bytes();
     let operation = operation_at(operation)?;
-    let source = Source::at(kind, source)?;
-    let form = form_of(operation, source, destination)?;
+    let form = form_of(operation, kind, source, destination)?;
     let size = size_of(size)?;
     Some(Step {
         size,

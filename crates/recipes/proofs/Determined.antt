@@ -26,7 +26,7 @@ use Rattle.text.specs.Wrote.{Written, written, writing}
 use Rattle.recipes.specs.Recipe.{recipe_lines}
 use Rattle.recipes.specs.Reader.{read_of}
 use Rattle.step.specs.Run.{array_slots}
-use Rattle.recipes.specs.Listing.{Translated, translated, translate_of}
+use Rattle.recipes.specs.Listing.{Translated, translated, translate_of, used_slots}
 use Rattle.recipes.specs.Printer.{step_text, listing_text, refusal_text, printed_of, answer_of}
 use Rattle.recipes.specs.Demand.{text_run_of}
 use Rattle.recipes.proofs.types.U8FromRefusal.from.Reads as u8-from-refusal
@@ -66,7 +66,7 @@ module _ {M : Type 1} {𝓤 : Ura M} (𝓛 : Logic 𝓤) (mem : Memory → SProp
   lines_determined κs a = record { of = recipe_lines a.0.now; is = λ r ws. refl }
 
   pub steps_determined : (κs : Lfts 1) (a : Args steps.signature κs) → OneExit-lent 𝓤 steps.ended κs a (λ r. r.now) ((steps.clauses 𝓛 mem go κs a).ensures tt)
-  steps_determined κs a = record { of = take a.0.now.count a.0.now.steps; is = λ r ws. refl }
+  steps_determined κs a = record { of = used_slots a.0.now; is = λ r ws. refl }
 
   pub read_determined : (κs : Lfts 1) (a : Args read.signature κs) → OneExit 𝓤 read.ended κs a (λ r ws. r) ((read.clauses 𝓛 mem go κs a).ensures tt)
   read_determined κs a = record { of = read_of a.0.now; is = λ r ws. refl; all = λ r r' ws ws' e. (e, refl) }

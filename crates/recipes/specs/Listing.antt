@@ -1,5 +1,5 @@
 -- The listing that a recipe is translated to: document 01, "Recipes" and "Refusal numbers", with document 02, item 4. Assumes nothing.
-use Rattle.std.specs.Prelude.{ℕ, zero, suc, ◌+◌, ◌*◌, ◌/◌, Bool, false, cond, Result, Ok, Err, List, [], ◌∷◌, ◌++◌, map, leb, length, replicate}
+use Rattle.std.specs.Prelude.{ℕ, zero, suc, ◌+◌, ◌*◌, ◌/◌, Bool, false, cond, Result, Ok, Err, List, [], ◌∷◌, ◌++◌, map, leb, length, replicate, take}
 use Rattle.alu.specs.declared.types.Size.TheVariants.{Long}
 use Rattle.step.specs.declared.registers.State.{State}
 use Rattle.step.specs.declared.forms.OneOp.TheVariants.{Clr}
@@ -165,6 +165,10 @@ blanks = replicate array_slots blank
 -- the translation in an array, by value: with a refusal there is none
 abbrev pub listed : (count : ℕ) → List Step → Listing
 listed count steps = record { count = count; steps = steps }
+
+-- its steps: the first `count` of its slots, or all where it has no more
+abbrev pub used_slots : Listing → List Step
+used_slots l = take l.count l.steps
 
 abbrev pub listing_in : Translated → Result Listing Refused
 listing_in t = elim t.told [ Ok count ↦ Ok (listed count t.slots) | Err k ↦ Err k ]

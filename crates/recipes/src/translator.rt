@@ -141,8 +141,8 @@ fn judge_lines(width: u8, lines: &[Line]) -> Result<usize, Refused>
 }
 
 // The tests of a recipe, in document 01's order, without that of the room; and the steps that it takes.
-fn judge(recipe: Recipe) -> Result<usize, Refused>
-    ensures { result ≡ judge_of recipe }
+fn judge(recipe: &Recipe) -> Result<usize, Refused>
+    ensures { result ≡ judge_of recipe.now }
 {
     if !is_width(recipe.width) {
         return Err(at_line(Refusal::WidthLine, 1));
@@ -164,31 +164,28 @@ fn lay_line(width: u8, line: Line, text_line: u8, slots: &mut [Step])
     }
 }
 
-// The steps of the lines, and blank slots behind them. Line k, from 0, is text line k + 2.
+// The steps of the lines, in slots that are blank and lent: by value they would be copied once more. Line k, from 0, is text line k + 2.
 // By `at`: lines differ in their number of steps, so no `chunks_exact_mut`; `split_at_mut` would keep the rest by hand in its place.
-fn lay(width: u8, lines: &[Line]) -> [Step; SLOTS]
-    requires { Layable width lines.now }
-    ensures { result ≡ over (numbered_of width 2 lines.now) blanks }
+fn lay(width: u8, lines: &[Line], steps: &mut [Step; SLOTS])
+    requires { Layable width lines.now × (steps.old ≡ blanks) }
+    ensures { steps.new ≡ over (numbered_of width 2 lines.now) blanks }
 {
-    let mut steps = [blank(); SLOTS];
     let mut at = 0;
     for (k, line) in lines.iter().enumerate() {
         let end = at + Job::of(width, *line).steps();
         lay_line(width, *line, k as u8 + 2, &mut steps[at..end]);
         at = end;
     }
-    steps
 }
 
 // Translates a recipe by value. There are slots for the steps of any recipe (`blanks_fit` of proofs/Settling).
 pub fn translate_array(recipe: Recipe) -> Result<Listing, Refused>
     ensures { result ≡ array_of recipe }
 {
-    let count = judge(recipe)?;
-    Ok(Listing {
-        count,
-        steps: lay(recipe.width, recipe.lines()),
-    })
+    let count = judge(&recipe)?;
+    let mut steps = [blank(); SLOTS];
+    lay(recipe.width, recipe.lines(), &mut steps);
+    Ok(Listing { count, steps })
 }
 
 // The clock figure of a step, asked of the machine. A step of a recipe has the same figure whatever the registers hold.

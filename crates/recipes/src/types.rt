@@ -1,7 +1,8 @@
 // What a recipe is, its limits, why one is refused, and what its reader, its translator and its run answer.
-ghost use Rattle.std.specs.Prelude.{◌≡◌, take};
+ghost use Rattle.std.specs.Prelude.{◌≡◌};
 ghost use Rattle.recipes.specs.Recipe.{number_of, at_column, at_line, recipe_lines};
 ghost use Rattle.recipes.specs.Reader.{no_recipe};
+ghost use Rattle.recipes.specs.Listing.{used_slots};
 
 use super::lines::unused;
 use alu::types::Flags;
@@ -144,7 +145,7 @@ pub struct Listing {
 impl Listing {
     // The listing's steps: all slots where `count` is above `SLOTS`.
     pub fn steps(&self) -> &[Step]
-        ensures { result.now ≡ take self.now.count self.now.steps }
+        ensures { result.now ≡ used_slots self.now }
     {
         &self.steps[..self.count.min(SLOTS)]
     }

@@ -2,3 +2,5 @@
 pub const TAB: u8 = 9;
 
 pub const NEWLINE: u8 = 10;
+
+pub const BLANK: u8 = 32;

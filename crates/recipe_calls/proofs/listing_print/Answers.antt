@@ -13,4 +13,4 @@ pub returns : goal.returns
 returns c =
     c.print.ensures
     ∙ ap (λ (steps : List Step). writing c.args.out.now 0 (listing_text c.args.width steps))
-    (ap (take array_slots) (c.steps.ensures ∙ c.listing_of.ensures) ∙ first_few c.args.listing.now)
+    (ap (take array_slots) c.steps_of.ensures ∙ first_few c.args.listing.now)

@@ -22,7 +22,7 @@ loop-i-preserved c =
     let within = within_planned (length a.flags.now) (length a.starts.now) (c.min-words.result / 8) p c.plan-plan.ensures in
     let inside : l.i < boxes_of p = omega (arith, boxes_are p) in
     let ran = c.run_box-ran.ensures.0
-    ∙ ap (λ (k : List Step). run_of perform_of k (box_state l.i l.d l.a l.flags) (get_or a.starts.now l.i 0) a.budget) (c.steps-steps.ensures ∙ c.listing_of-made.ensures) in
+    ∙ ap (λ (k : List Step). run_of perform_of k (box_state l.i l.d l.a l.flags) (get_or a.starts.now l.i 0) a.budget) c.steps_of-steps.ensures in
     let told = c.put_eight.ensures ∙ ap (λ (w : List ℕ). eight_put l.i w l.answers) c.ran_told.ensures in
     after_next (first_of a.listing.now) (boxes_of p) a.d.now a.a.now a.flags.now a.starts.now a.budget a.answers.now within.sets within.starts
     l.d l.a l.flags l.answers l.i inside l.invariant c.run_box-ran.result ran _ _ _ _ c.run_box-ran.ensures.1 told

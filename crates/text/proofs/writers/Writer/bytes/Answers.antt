@@ -1,14 +1,10 @@
--- `Writer::bytes` meets its contract: as much of the text as there is room for is copied behind the place. Assumes nothing.
-use Rattle.std.proofs.Common.{◌≡◌, ◌+◌, ◌-◌, min, length, drop-drop, arith}
-use Rattle.text.proofs.Writing.{holds, wrote_part, wrote_past}
+-- `Writer::bytes` meets its contract: a turn of the loop writes one byte behind the others. Assumes nothing.
+use Rattle.std.proofs.Common.{ℕ, add-one, take-suc}
+use Rattle.text.proofs.Writing.{next, writes_none}
 use Rattle.text.proofs.writers.Writer.bytes.Goals as goal
 
-pub returns-then-self-end : goal.returns-then-self-end
-returns-then-self-end c =
-    let w = c.args.self.now in
-    let end : c.min-end.result ≡ min (w.at + length c.args.text.now) (length w.out.now) = omega arith in
-    let rest : w.at + (c.min-end.result - w.at) ≡ c.min-end.result = omega arith in
-    holds _ _ (rw (c.copy_from_slice.ensures.after, drop-drop, rest) (wrote_part w.out.now w.at c.min-end.result c.args.text.now end c.if-self-end.true))
+pub loop-b-init : goal.loop-b-init
+loop-b-init c = writes_none _
 
-pub returns-else-self-end : goal.returns-else-self-end
-returns-else-self-end c = holds _ _ (wrote_past _ _ _ (omega arith))
+pub loop-b-preserved : goal.loop-b-preserved
+loop-b-preserved c = rw (add-one, take-suc {A = ℕ} _ _ 0 c.loop-b-test.true) (next _ _ _ _ _ c.loop-b.invariant c.byte.ensures)

@@ -1,4 +1,4 @@
--- `rows::listing_of` meets its contract: its loop ends where the words or the slots do. Assumes nothing.
+-- `rows::steps_of` meets its contract: its loop ends where the words or the slots do. Assumes nothing.
 use Prim.Native.Nat.{ℕ}
 use mathlib.Core.Path.{◌≡◌, ap, ◌∙◌}
 use mathlib.Core.List.{map}
@@ -8,7 +8,7 @@ use lib.Seq.{length-take-le}
 use Rattle.std.proofs.lemmas.List.{take_min}
 use Rattle.step.specs.Run.{array_slots}
 use Rattle.recipe_calls.specs.Words.{step_of}
-use Rattle.recipe_calls.proofs.rows.listing_of.Goals as goal
+use Rattle.recipe_calls.proofs.rows.steps_of.Goals as goal
 
 pub returns : goal.returns
 returns c =
