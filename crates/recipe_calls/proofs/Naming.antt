@@ -1,6 +1,6 @@
--- Laws of a word's lowest byte, and of how many steps words name. Assumes nothing.
+-- Laws of a word's lowest byte, of the step that a word names, and of how many steps words name. Assumes nothing.
 --     low         the byte by its place, and as a remainder
---     whole       the step of a word, from what its bytes name
+--     named_by    the step of a word, from what its bytes name
 --     first_few   no more steps than an array holds
 use Prim.Native.Nat.{ℕ, ◌%◌, ◌≤◌}
 use mathlib.Core.Path.{◌≡◌, refl, sym, ap, ◌∙◌}
@@ -26,13 +26,13 @@ chained : {A B C : Type 0} (o : Option A) (f : A → Option B) (g : B → Option
 chained None f g = refl
 chained (Some a) f g = refl
 
-pub whole :
+pub named_by :
     (word : ℕ) (operation : Operation) (form : Form) (size : Size) →
     operation_at (byte_of 0 word) ≡ Some operation →
     option_and_then (λ s. made_of operation s (byte_of 4 word)) (source_at (byte_of 2 word) (byte_of 3 word)) ≡ Some form →
     size_of (byte_of 1 word) ≡ Some size → Some (record { size = size; form = form; line = 0 }) ≡ named word
 unfolding named
-whole word operation form size o f s =
+named_by word operation form size o f s =
     sym
     (rw o
     (chained (source_at (byte_of 2 word) (byte_of 3 word)) (λ s. made_of operation s (byte_of 4 word)) (λ form. size_of (byte_of 1 word) >>= (λ size. Some (record { size = size; form = form; line = 0 })))

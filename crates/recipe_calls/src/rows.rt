@@ -4,8 +4,7 @@ ghost use Rattle.step.specs.Lent.{over};
 ghost use Rattle.recipe_calls.specs.Words.{step_word, first_of};
 ghost use Rattle.recipe_calls.specs.Boxes.{eight_at, eight_put};
 
-use super::words::{no_step, step_of, step_word};
-use recipes::types::Listing;
+use super::words::{step_of, step_word};
 use step::forms::Step;
 use step::runs::SLOTS;
 
@@ -40,7 +39,7 @@ pub(crate) fn eight_at(row: &[u32], i: usize) -> [u32; 8]
     requires { 8 * i + 8 ≤ length row.now }
     ensures { result ≡ eight_at i row.now }
 {
-    // By index, as in `put_eight`: with `copy_from_slice` a rack of short runs takes a quarter more instructions.
+    // By index, as in `put_eight`: with `copy_from_slice` a rack of short runs takes a fifth more instructions.
     let mut words = [0; 8];
     for j in 0..8 {
         words[j] = row[8 * i + j];

@@ -91,7 +91,7 @@ pub(crate) fn no_step() -> Step
 }
 
 // The step that the bytes of a word name, if they name one; its line is not among them.
-#[tactic(auto, using(crate::proofs::Naming::low, crate::proofs::Naming::whole), unfolding(crate::specs::Words::named))]
+#[tactic(auto, using(crate::proofs::Naming::low), unfolding(crate::specs::Words::named))]
 fn named(word: u64) -> Option<Step>
     ensures { result ≡ named word }
 {
